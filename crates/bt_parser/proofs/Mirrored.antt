@@ -1,13 +1,18 @@
 -- Each part of an expression is read by its steps.
 use Rattle.std.proofs.Common.{◌≡◌, Bool, true, false, not, List, [], ◌∷◌, ◌++◌, Result, Ok, Err, refl, sym, ap, ◌∙◌, inl, inr, ◌⊎◌, Option, Some, None, if◌then◌else◌}
+use Rattle.std.specs.Prelude.{◌≢◌, IsErr, IsErrAnd, OnOk}
+use Rattle.bt_core.specs.Want.{out_of_memory}
+use Rattle.bt_parser.specs.declared.fault.Fault.TheVariants.{OutOfMemory}
 use Rattle.bt_core.specs.declared.operator.UnOp.{UnOp}
 use Rattle.bt_lexer.specs.declared.token.Token.{Token}
 use Rattle.bt_lexer.specs.declared.token.TokenKind.{TokenKind}
 use Rattle.bt_core.specs.declared.place.Place.{Place}
 use Rattle.bt_ast.specs.declared.expr.Expr.{Expr}
+use Rattle.bt_ast.specs.declared.expr.ExprKind.TheVariants as exprs
 use Rattle.bt_ast.specs.declared.expr.MapRef.{MapRef}
+use Rattle.bt_ast.specs.declared.expr.Target.TheVariants as targets
 use Rattle.bt_grammar.specs.declared.class.Class.{Class}
-use Rattle.bt_grammar.specs.declared.class.Class.TheVariants.{Arrow, Dot, Increment, Decrement, MapName, OpenParen, OpenBracket, CloseBracket, Comma, Question, Colon}
+use Rattle.bt_grammar.specs.declared.class.Class.TheVariants.{Arrow, Dot, Increment, Decrement, MapName, VarName, OpenParen, OpenBracket, CloseBracket, Comma, Question, Colon}
 use Rattle.bt_grammar.specs.declared.class.Tier.{Tier}
 use Rattle.bt_grammar.specs.declared.class.Tier.TheVariants.{Products, Sums, Shifts, Orders, Equalities, BitAnds, BitXors, BitOrs, AndThens, OrElses}
 use Rattle.bt_grammar.specs.Classes.{is, is_step, prefix_of, joins}
@@ -16,10 +21,11 @@ use Rattle.bt_grammar.specs.Fine.{FineAt, Led}
 use Rattle.bt_grammar.specs.Tokens.{items}
 use Rattle.bt_grammar.specs.Reading.{Out, Done, Refused, Unfinished, and_then, read, reads, goes_on, starts, rest_of, first, sens, differs}
 use Rattle.bt_grammar.specs.Rules.{rule, mark, ends, optional, after_comma, value, operand, operation}
-use Rattle.bt_grammar.specs.Trees.{second, snoc, pair, choose, map_ref, map_operand, binary}
+use Rattle.bt_grammar.specs.Trees.{second, snoc, pair, choose, map_ref, map_operand, binary, expr, step_after, var_operand}
+use Rattle.bt_parser.specs.declared.cursor.Named.{Named}
 use Rattle.bt_parser.specs.declared.fault.Fault.{Fault}
 use Rattle.bt_parser.specs.Contract.{Makes, Reads}
-use Rattle.bt_parser.specs.Mirror.{class_at, front_place, operator_at, when, prefix_at, named, operand_by, tighter, level_on, level_by, level_turn, choice_by, expression_by, unary_by, primary_by, keyed_by, map_by, assignable_by, dot_form, field_form, field_by, keys_by, values_on, values_behind, values_turn, plus_of, step_at, step_on, map_value}
+use Rattle.bt_parser.specs.Mirror.{class_at, front_place, operator_at, when, prefix_at, named, operand_by, tighter, level_on, level_by, level_turn, choice_by, expression_by, unary_by, primary_by, keyed_by, map_by, assignable_by, dot_form, field_form, field_by, keys_by, values_on, values_behind, values_turn, plus_of, step_at, step_on, map_value, named_form, var_of, variable_form}
 use Rattle.bt_grammar.proofs.Enough.{reads_is}
 use Rattle.bt_grammar.proofs.Steps.{goes_on_stop, goes_on_more}
 use Rattle.bt_grammar.proofs.Checked.{fine_rule}
@@ -40,6 +46,31 @@ and_then_same Unfinished f g h = refl
 pub made_reads : {A : Type 0} (out : Out A) (a : A) (r : Result A Fault) (left : List Token) → Makes a r → out ≡ Done a (items left) → Reads out r left
 made_reads out a (Ok b) left m h = h ∙ ap (λ x. Done x (items left)) (sym m)
 made_reads out a (Err e) left m h = λ other. absurd (other m)
+
+-- what is read is passed over
+pub passed : {A B C : Type 0} (o : Out A) (f : A → B) (b : B) (x : C) (r : List Item) → and_then o (λ a r'. Done (f a) r') ≡ Done b r → and_then o (λ a r'. Done x r') ≡ Done x r
+passed (Done a r') f b x r h = cc (h)
+passed (Refused r') f b x r h = cc (h)
+passed Unfinished f b x r h = cc (h)
+
+pub not_passed : {A B C : Type 0} (o : Out A) (f : A → B) (g : A → List Item → Out C) (r : List Item) → and_then o (λ a r'. Done (f a) r') ≡ Refused r → and_then o g ≡ Refused r
+not_passed (Done a r') f g r h = cc (h)
+not_passed (Refused r') f g r h = cc (h)
+not_passed Unfinished f g r h = cc (h)
+
+-- what was refused
+pub refused_reads : {A : Type 0} (out : Out A) (e : Fault) (r : Result A Fault) (left : List Token) → IsErrAnd r (λ d. d ≡ e) → (e ≢ OutOfMemory out_of_memory → out ≡ Refused (items left)) → Reads out r left
+refused_reads out e (Ok b) left m h = absurd m
+refused_reads out e (Err d) left m h = λ other. h (λ x. other (m ∙ x))
+
+-- what holds if there is a value
+pub on_ok : {A E : Type 0} (r : Result A E) (P : Type 0) → P → OnOk r P
+on_ok (Ok b) P h = h
+on_ok (Err d) P h = tt
+
+pub on_err : {A E : Type 0} (r : Result A E) (P : Type 0) → IsErr r → OnOk r P
+on_err (Ok b) P m = cc (m)
+on_err (Err d) P m = tt
 
 -- ---- a choice by the next token
 
@@ -169,6 +200,27 @@ map_step_at m _ k p r = refl
 map_step : (m : MapRef) (r : List Item) → and_then (read reads (optional (Tok is_step)) r) (λ s r'. Done (map_operand m s) r') ≡ step_on (map_value m) (step_at r) r
 map_step m [] = refl
 map_step m (t ∷ r) = map_step_at m t.class t.kind t.place r
+
+-- a variable, with the step behind it
+abbrev pub var_value : Named → Option Bool → Expr
+var_value n None = expr (exprs.Var (var_of n)) n.place
+var_value n (Some plus) = expr (exprs.Step (step_after (targets.Var (var_of n)) plus n.place)) n.place
+
+abbrev var_on : Named → List Item → Out Expr
+var_on n r = step_on (var_value n) (step_at r) r
+
+var_step_at : (t : Item) (c : Class) (k : TokenKind) (p : Place) (r : List Item)
+    → and_then (read reads (optional (Tok is_step)) (it c k p ∷ r)) (λ s r'. Done (var_operand t s) r') ≡ var_on (named t) (it c k p ∷ r)
+var_step_at t Increment k p r = refl
+var_step_at t Decrement k p r = refl
+var_step_at t _ k p r = refl
+
+var_step : (t : Item) (r : List Item) → and_then (read reads (optional (Tok is_step)) r) (λ s r'. Done (var_operand t s) r') ≡ var_on (named t) r
+var_step t [] = refl
+var_step t (u ∷ r) = var_step_at t u.class u.kind u.place r
+
+pub variable_is : (ts : List Item) → read reads variable_form ts ≡ and_then (read reads (named_form VarName) ts) (λ n r. step_on (var_value n) (step_at r) r)
+variable_is ts = and_then_same (read reads (Tok (is VarName)) ts) _ _ var_step ∙ sym (and_then_assoc (read reads (Tok (is VarName)) ts) (λ t r. Done (named t) r) var_on)
 
 primary_at : (c : Class) (k : TokenKind) (p : Place) (r : List Item) → read reads (rule Primary) (it c k p ∷ r) ≡ primary_by (Some c) (it c k p ∷ r)
 primary_at OpenParen k p r = simp and_then_assoc

@@ -1,56 +1,123 @@
-use Rattle.std.proofs.Common.{rules, arith}
+use Rattle.std.proofs.Common.{refl, rules, arith}
 use Rattle.std.proofs.lemmas.Grind.{common_steps}
 use Rattle.bt_grammar.specs.Tokens.{items}
 use Rattle.bt_parser.proofs.Blocks.{arm_is, arms_turns, block_is, body_start, body_turns, control_is}
+use Rattle.bt_parser.proofs.Mirrored.{on_err, refused_reads}
 use Rattle.bt_parser.proofs.block.+block.Goals as goal
 
 pub arm-returns-in_err-condition-clause-reads : goal.arm-returns-in_err-condition-clause-reads
-arm-returns-in_err-condition-clause-reads t c = rw (arm_is (items c.args.tokens.now)) (first_of (search rules, grind (arith, common_steps)))
+arm-returns-in_err-condition-clause-reads t c = refused_reads _ _ _ _ c.from_residual.ensures.1 (λ other. rw (arm_is (items c.args.tokens.now), c.in_err-condition.ensures.reads other) refl)
 
 pub arm-returns-in_err-block-clause-reads : goal.arm-returns-in_err-block-clause-reads
-arm-returns-in_err-block-clause-reads t c = rw (arm_is (items c.args.tokens.now)) (first_of (search rules, grind (arith, common_steps)))
+arm-returns-in_err-block-clause-reads t c = refused_reads _ _ _ _ c.from_residual-in_err-block.ensures.1 (λ other. rw (arm_is (items c.args.tokens.now), c.in_ok-condition.ensures.reads, c.in_err-block.ensures.reads other) refl)
 
 pub arm-returns-clause-reads : goal.arm-returns-clause-reads
-arm-returns-clause-reads t c = rw (arm_is (items c.args.tokens.now)) (first_of (search rules, grind (arith, common_steps)))
+arm-returns-clause-reads t c = rw (arm_is (items c.args.tokens.now), c.in_ok-condition.ensures.reads, c.in_ok-block.ensures.reads) refl
 
 pub block-returns-in_err-place-clause-reads : goal.block-returns-in_err-place-clause-reads
-block-returns-in_err-place-clause-reads t c = rw (block_is (items c.args.tokens.now)) (first_of (search rules, grind (arith, common_steps)))
+block-returns-in_err-place-clause-reads t c = refused_reads _ _ _ _ c.from_residual.ensures.1 (λ other. rw (block_is (items c.args.tokens.now), c.in_err-place.ensures.reads other) refl)
 
 pub block-returns-in_err-stmts-clause-reads : goal.block-returns-in_err-stmts-clause-reads
-block-returns-in_err-stmts-clause-reads t c = rw (block_is (items c.args.tokens.now)) (first_of (search rules, grind (arith, common_steps)))
+block-returns-in_err-stmts-clause-reads t c = refused_reads _ _ _ _ c.from_residual-in_err-stmts.ensures.1 (λ other. rw (block_is (items c.args.tokens.now), c.in_ok-place.ensures.reads, c.in_err-stmts.ensures.reads other) refl)
 
 pub block-returns-clause-reads : goal.block-returns-clause-reads
-block-returns-clause-reads t c = rw (block_is (items c.args.tokens.now)) (first_of (search rules, grind (arith, common_steps)))
+block-returns-clause-reads t c = rw (block_is (items c.args.tokens.now), c.in_ok-place.ensures.reads, c.in_ok-stmts.ensures.reads) refl
 
 pub body-loop-alloc-init : goal.body-loop-alloc-init
 body-loop-alloc-init t c = let e = body_start (items c.args.tokens.now) in (first_of (search rules, grind (arith, common_steps)))
 
 pub body-returns-in_err-stmt-clause-reads : goal.body-returns-in_err-stmt-clause-reads
-body-returns-in_err-stmt-clause-reads t c = let e = body_turns c.loop-alloc.stmts (items c.loop-alloc.tokens) in rw (← c.loop-alloc.invariant.0) (first_of (search rules, grind (arith, common_steps)))
+body-returns-in_err-stmt-clause-reads t c = refused_reads _ _ _ _ c.from_residual.ensures.1 (λ other. rw (← c.loop-alloc.invariant.0, body_turns c.loop-alloc.stmts (items c.loop-alloc.tokens), ← c.loop-alloc-test.ensures.class, c.in_err-stmt.ensures.reads other) refl)
 
 pub body-returns-clause-reads : goal.body-returns-clause-reads
-body-returns-clause-reads t c = let e = body_turns c.loop-alloc.stmts (items c.loop-alloc.tokens) in rw (← c.loop-alloc.invariant.0) (first_of (search rules, grind (arith, common_steps)))
+body-returns-clause-reads t c = rw (← c.loop-alloc.invariant.0, body_turns c.loop-alloc.stmts (items c.loop-alloc.tokens), ← c.loop-alloc-test.ensures.class, c.skip.ensures.items) refl
 
 pub body-loop-alloc-preserved : goal.body-loop-alloc-preserved
 body-loop-alloc-preserved t c = let e = body_turns c.loop-alloc.stmts (items c.loop-alloc.tokens) in (rw (← c.loop-alloc.invariant.0) (first_of (search rules, grind (arith, common_steps))), (first_of (search rules, grind (arith, common_steps))))
 
 pub branches-returns-in_err-arm-2-clause-reads : goal.branches-returns-in_err-arm-2-clause-reads
-branches-returns-in_err-arm-2-clause-reads t c = let e = arms_turns c.loop-tokens.arms (items c.loop-tokens.tokens) in rw (← c.loop-tokens.invariant.0) (first_of (search rules, grind (arith, common_steps)))
+branches-returns-in_err-arm-2-clause-reads t c = refused_reads _ _ _ _ c.from_residual-in_err-arm-2.ensures.1 (λ other. rw (← c.loop-tokens.invariant.0, arms_turns c.loop-tokens.arms (items c.loop-tokens.tokens), ← c.loop-tokens-test.ensures.class, ← c.skip.ensures.items, ← c.skip-in-loop-tokens.ensures.items, c.in_err-arm-2.ensures.reads other) refl)
 
 pub branches-returns-in_err-otherwise-clause-reads : goal.branches-returns-in_err-otherwise-clause-reads
-branches-returns-in_err-otherwise-clause-reads t c = let e = arms_turns c.loop-tokens.arms (items c.loop-tokens.tokens) in rw (← c.loop-tokens.invariant.0) (first_of (search rules, grind (arith, common_steps)))
+branches-returns-in_err-otherwise-clause-reads t c = refused_reads _ _ _ _ c.from_residual-in_err-otherwise.ensures.1 (λ other. rw (← c.loop-tokens.invariant.0, arms_turns c.loop-tokens.arms (items c.loop-tokens.tokens), ← c.loop-tokens-test.ensures.class, c.in_err-otherwise.ensures.reads other) refl)
 
 pub branches-returns-clause-reads : goal.branches-returns-clause-reads
-branches-returns-clause-reads t c = let e = arms_turns c.loop-tokens.arms (items c.loop-tokens.tokens) in rw (← c.loop-tokens.invariant.0) (first_of (search rules, grind (arith, common_steps)))
+branches-returns-clause-reads t c = rw (← c.loop-tokens.invariant.0, arms_turns c.loop-tokens.arms (items c.loop-tokens.tokens), ← c.loop-tokens-test.ensures.class, c.in_ok-otherwise.ensures.reads) refl
 
 pub branches-loop-tokens-preserved : goal.branches-loop-tokens-preserved
 branches-loop-tokens-preserved t c = let e = arms_turns c.loop-tokens.arms (items c.loop-tokens.tokens) in (rw (← c.loop-tokens.invariant.0) (first_of (search rules, grind (arith, common_steps))), (first_of (search rules, grind (arith, common_steps))))
 
 pub control-returns-then-sees-clause-reads : goal.control-returns-then-sees-clause-reads
-control-returns-then-sees-clause-reads t c = rw (control_is (items c.args.tokens.now)) (search rules)
+control-returns-then-sees-clause-reads t c = rw (control_is (items c.args.tokens.now), ← c.if-sees.ensures.class, ← c.skip-place.ensures.items, ← c.skip-place.ensures.place) c.if_stmt.ensures.reads
 
 pub control-returns-then-sees-2-clause-reads : goal.control-returns-then-sees-2-clause-reads
-control-returns-then-sees-2-clause-reads t c = rw (control_is (items c.args.tokens.now)) (search rules)
+control-returns-then-sees-2-clause-reads t c = rw (control_is (items c.args.tokens.now), ← c.if-sees.ensures.class, ← c.if-sees-2.ensures.class, ← c.skip-place-then-sees-2.ensures.items, ← c.skip-place-then-sees-2.ensures.place) c.while_stmt.ensures.reads
 
 pub control-returns-clause-reads : goal.control-returns-clause-reads
-control-returns-clause-reads t c = rw (control_is (items c.args.tokens.now)) (search rules)
+control-returns-clause-reads t c = rw (control_is (items c.args.tokens.now), ← c.if-sees.ensures.class, ← c.if-sees-2.ensures.class) c.unroll.ensures.reads
+
+pub arm-returns-in_err-condition-clause-shorter : goal.arm-returns-in_err-condition-clause-shorter
+arm-returns-in_err-condition-clause-shorter t c = on_err _ _ c.from_residual.ensures.0
+
+pub arm-returns-in_err-block-clause-shorter : goal.arm-returns-in_err-block-clause-shorter
+arm-returns-in_err-block-clause-shorter t c = on_err _ _ c.from_residual-in_err-block.ensures.0
+
+pub block-returns-in_err-place-clause-shorter : goal.block-returns-in_err-place-clause-shorter
+block-returns-in_err-place-clause-shorter t c = on_err _ _ c.from_residual.ensures.0
+
+pub block-returns-in_err-stmts-clause-shorter : goal.block-returns-in_err-stmts-clause-shorter
+block-returns-in_err-stmts-clause-shorter t c = on_err _ _ c.from_residual-in_err-stmts.ensures.0
+
+pub body-returns-in_err-stmt-clause-shorter : goal.body-returns-in_err-stmt-clause-shorter
+body-returns-in_err-stmt-clause-shorter t c = on_err _ _ c.from_residual.ensures.0
+
+pub branches-returns-in_err-arm-2-clause-shorter : goal.branches-returns-in_err-arm-2-clause-shorter
+branches-returns-in_err-arm-2-clause-shorter t c = on_err _ _ c.from_residual-in_err-arm-2.ensures.0
+
+pub branches-returns-in_err-otherwise-clause-shorter : goal.branches-returns-in_err-otherwise-clause-shorter
+branches-returns-in_err-otherwise-clause-shorter t c = on_err _ _ c.from_residual-in_err-otherwise.ensures.0
+
+pub branches-returns-in_err-arm-clause-reads : goal.branches-returns-in_err-arm-clause-reads
+branches-returns-in_err-arm-clause-reads t c = refused_reads _ _ _ _ c.from_residual.ensures.1 (λ other. rw (c.in_err-arm.ensures.reads other) refl)
+
+pub branches-returns-in_err-arm-clause-shorter : goal.branches-returns-in_err-arm-clause-shorter
+branches-returns-in_err-arm-clause-shorter t c = on_err _ _ c.from_residual.ensures.0
+
+pub otherwise-returns-then-not-sees-clause-reads : goal.otherwise-returns-then-not-sees-clause-reads
+otherwise-returns-then-not-sees-clause-reads t c = rw (← c.if-not-sees.ensures.class) refl
+
+pub otherwise-returns-in_err-block-clause-reads : goal.otherwise-returns-in_err-block-clause-reads
+otherwise-returns-in_err-block-clause-reads t c = refused_reads _ _ _ _ c.from_residual.ensures.1 (λ other. rw (← c.if-not-sees.ensures.class, ← c.skip.ensures.items, c.in_err-block.ensures.reads other) refl)
+
+pub otherwise-returns-in_err-block-clause-no_longer : goal.otherwise-returns-in_err-block-clause-no_longer
+otherwise-returns-in_err-block-clause-no_longer t c = on_err _ _ c.from_residual.ensures.0
+
+pub otherwise-returns-clause-reads : goal.otherwise-returns-clause-reads
+otherwise-returns-clause-reads t c = rw (← c.if-not-sees.ensures.class, ← c.skip.ensures.items, c.in_ok-block.ensures.reads) refl
+
+pub if_stmt-returns-in_err-kind-clause-reads : goal.if_stmt-returns-in_err-kind-clause-reads
+if_stmt-returns-in_err-kind-clause-reads t c = refused_reads _ _ _ _ c.from_residual.ensures.1 (λ other. rw (c.in_err-kind.ensures.reads other) refl)
+
+pub if_stmt-returns-in_err-kind-clause-shorter : goal.if_stmt-returns-in_err-kind-clause-shorter
+if_stmt-returns-in_err-kind-clause-shorter t c = on_err _ _ c.from_residual.ensures.0
+
+pub if_stmt-returns-clause-reads : goal.if_stmt-returns-clause-reads
+if_stmt-returns-clause-reads t c = rw (c.in_ok-kind.ensures.reads) refl
+
+pub unroll-returns-in_err-place-clause-reads : goal.unroll-returns-in_err-place-clause-reads
+unroll-returns-in_err-place-clause-reads t c = refused_reads _ _ _ _ c.from_residual.ensures.1 (λ other. rw (c.in_err-place.ensures.reads other) refl)
+
+pub unroll-returns-in_err-place-clause-shorter : goal.unroll-returns-in_err-place-clause-shorter
+unroll-returns-in_err-place-clause-shorter t c = on_err _ _ c.from_residual.ensures.0
+
+pub unroll-returns-in_err-turns-clause-reads : goal.unroll-returns-in_err-turns-clause-reads
+unroll-returns-in_err-turns-clause-reads t c = refused_reads _ _ _ _ c.from_residual-in_err-turns.ensures.1 (λ other. rw (c.in_ok-place.ensures.reads, c.in_err-turns.ensures.reads other) refl)
+
+pub unroll-returns-in_err-turns-clause-shorter : goal.unroll-returns-in_err-turns-clause-shorter
+unroll-returns-in_err-turns-clause-shorter t c = on_err _ _ c.from_residual-in_err-turns.ensures.0
+
+pub unroll-returns-in_err-block-clause-reads : goal.unroll-returns-in_err-block-clause-reads
+unroll-returns-in_err-block-clause-reads t c = refused_reads _ _ _ _ c.from_residual-in_err-block.ensures.1 (λ other. rw (c.in_ok-place.ensures.reads, c.in_ok-turns.ensures.reads, c.in_err-block.ensures.reads other) refl)
+
+pub unroll-returns-in_err-block-clause-shorter : goal.unroll-returns-in_err-block-clause-shorter
+unroll-returns-in_err-block-clause-shorter t c = on_err _ _ c.from_residual-in_err-block.ensures.0

@@ -1,7 +1,7 @@
 use Rattle.std.proofs.Common.{refl, rules, arith}
 use Rattle.std.proofs.lemmas.Grind.{common_steps}
 use Rattle.bt_grammar.specs.Tokens.{items}
-use Rattle.bt_parser.proofs.Mirrored.{assignable_is, expression_is, keyed_is, level_is, level_turns, made_reads, primary_is, unary_is, values_turns}
+use Rattle.bt_parser.proofs.Mirrored.{assignable_is, expression_is, keyed_is, level_is, level_turns, made_reads, not_passed, passed, primary_is, refused_reads, on_ok, on_err, unary_is, values_turns}
 use Rattle.bt_parser.proofs.expr.+expr.Goals as goal
 
 pub alternatives-returns-clause-reads : goal.alternatives-returns-clause-reads
@@ -14,85 +14,202 @@ pub closed-returns-clause-reads : goal.closed-returns-clause-reads
 closed-returns-clause-reads t c = made_reads _ _ _ _ c.paren.ensures (rw c.in_ok-inner.ensures.reads refl)
 
 pub joined-returns-clause-reads : goal.joined-returns-clause-reads
-joined-returns-clause-reads t c = made_reads _ _ _ _ c.join.ensures (first_of (search rules, grind (arith, common_steps)))
+joined-returns-clause-reads t c = made_reads _ _ _ _ c.join.ensures (rw (← c.tighter.ensures.value, c.in_ok-right.ensures.reads) refl)
 
 pub assignable-returns-in_err-keyed-clause-reads : goal.assignable-returns-in_err-keyed-clause-reads
-assignable-returns-in_err-keyed-clause-reads t c = rw (assignable_is (items c.args.tokens.now)) (first_of (search rules, grind (arith, common_steps)))
+assignable-returns-in_err-keyed-clause-reads t c = refused_reads _ _ _ _ c.from_residual.ensures.1 (λ other. rw (assignable_is (items c.args.tokens.now), ← c.if-sees.ensures.class, c.in_err-keyed.ensures.reads other) refl)
 
 pub assignable-returns-then-sees-clause-reads : goal.assignable-returns-then-sees-clause-reads
-assignable-returns-then-sees-clause-reads t c = rw (assignable_is (items c.args.tokens.now)) (first_of (search rules, grind (arith, common_steps)))
+assignable-returns-then-sees-clause-reads t c = rw (assignable_is (items c.args.tokens.now), ← c.if-sees.ensures.class, c.in_ok-keyed.ensures.reads) refl
 
 pub assignable-returns-in_err-bytes-clause-reads : goal.assignable-returns-in_err-bytes-clause-reads
-assignable-returns-in_err-bytes-clause-reads t c = rw (assignable_is (items c.args.tokens.now)) (first_of (search rules, grind (arith, common_steps)))
+assignable-returns-in_err-bytes-clause-reads t c = refused_reads _ _ _ _ c.from_residual-in_err-bytes.ensures.1 (λ other. rw (assignable_is (items c.args.tokens.now), ← c.if-sees.ensures.class, c.in_err-bytes.ensures.reads other) refl)
 
 pub assignable-returns-clause-reads : goal.assignable-returns-clause-reads
-assignable-returns-clause-reads t c = rw (assignable_is (items c.args.tokens.now)) (first_of (search rules, grind (arith, common_steps)))
+assignable-returns-clause-reads t c = rw (assignable_is (items c.args.tokens.now), ← c.if-sees.ensures.class, c.in_ok-bytes.ensures.reads) refl
 
 pub expression-returns-in_err-condition-clause-reads : goal.expression-returns-in_err-condition-clause-reads
-expression-returns-in_err-condition-clause-reads t c = rw (expression_is c.args.in_predicate (items c.args.tokens.now)) (first_of (search rules, grind (arith, common_steps)))
+expression-returns-in_err-condition-clause-reads t c = refused_reads _ _ _ _ c.from_residual.ensures.1 (λ other. rw (expression_is c.args.in_predicate (items c.args.tokens.now), c.in_err-condition.ensures.reads other) refl)
 
 pub expression-returns-then-not-sees-clause-reads : goal.expression-returns-then-not-sees-clause-reads
-expression-returns-then-not-sees-clause-reads t c = rw (expression_is c.args.in_predicate (items c.args.tokens.now)) (first_of (search rules, grind (arith, common_steps)))
+expression-returns-then-not-sees-clause-reads t c = rw (expression_is c.args.in_predicate (items c.args.tokens.now), c.in_ok-condition.ensures.reads, ← c.if-not-sees.ensures.class) refl
 
 pub expression-returns-clause-reads : goal.expression-returns-clause-reads
-expression-returns-clause-reads t c = rw (expression_is c.args.in_predicate (items c.args.tokens.now)) (first_of (search rules, grind (arith, common_steps)))
+expression-returns-clause-reads t c = rw (expression_is c.args.in_predicate (items c.args.tokens.now), c.in_ok-condition.ensures.reads, ← c.if-not-sees.ensures.class, ← c.skip.ensures.items) c.choice.ensures.reads
 
 pub keyed-returns-in_err-bytes-clause-reads : goal.keyed-returns-in_err-bytes-clause-reads
-keyed-returns-in_err-bytes-clause-reads t c = rw (keyed_is (items c.args.tokens.now)) (first_of (search rules, grind (arith, common_steps)))
+keyed-returns-in_err-bytes-clause-reads t c = refused_reads _ _ _ _ c.from_residual.ensures.1 (λ other. rw (keyed_is (items c.args.tokens.now), c.in_err-bytes.ensures.reads other) refl)
 
 pub keyed-returns-in_err-keys-clause-reads : goal.keyed-returns-in_err-keys-clause-reads
-keyed-returns-in_err-keys-clause-reads t c = rw (keyed_is (items c.args.tokens.now)) (first_of (search rules, grind (arith, common_steps)))
+keyed-returns-in_err-keys-clause-reads t c = refused_reads _ _ _ _ c.from_residual-in_err-keys.ensures.1 (λ other. rw (keyed_is (items c.args.tokens.now), c.in_ok-bytes.ensures.reads, c.in_err-keys.ensures.reads other) refl)
 
 pub keyed-returns-clause-reads : goal.keyed-returns-clause-reads
-keyed-returns-clause-reads t c = rw (keyed_is (items c.args.tokens.now)) (first_of (search rules, grind (arith, common_steps)))
+keyed-returns-clause-reads t c = rw (keyed_is (items c.args.tokens.now), c.in_ok-bytes.ensures.reads, c.in_ok-keys.ensures.reads) refl
 
 pub level-returns-in_err-left-clause-reads : goal.level-returns-in_err-left-clause-reads
-level-returns-in_err-left-clause-reads t c = rw (level_is c.args.in_predicate c.args.tier (items c.args.tokens.now)) (first_of (search rules, grind (arith, common_steps)))
+level-returns-in_err-left-clause-reads t c = refused_reads _ _ _ _ c.from_residual.ensures.1 (λ other. rw (level_is c.args.in_predicate c.args.tier (items c.args.tokens.now), ← c.tighter.ensures.value, c.in_err-left.ensures.reads other) refl)
 
 pub level-loop-class-init : goal.level-loop-class-init
-level-loop-class-init t c = (rw (level_is c.args.in_predicate c.args.tier (items c.args.tokens.now)) (first_of (search rules, grind (arith, common_steps))), (first_of (search rules, grind (arith, common_steps))))
+level-loop-class-init t c = (rw (level_is c.args.in_predicate c.args.tier (items c.args.tokens.now), ← c.tighter.ensures.value, c.in_ok-left.ensures.reads) refl, c.in_ok-left.ensures.shorter)
 
 pub level-returns-in_err-left-2-clause-reads : goal.level-returns-in_err-left-2-clause-reads
-level-returns-in_err-left-2-clause-reads t c = let e = level_turns c.args.in_predicate c.args.tier c.loop-class.left (items c.loop-class.tokens) in rw (← c.loop-class.invariant.0) (first_of (search rules, grind (arith, common_steps)))
+level-returns-in_err-left-2-clause-reads t c = refused_reads _ _ _ _ c.from_residual-in_err-left-2.ensures.1 (λ other. rw (← c.loop-class.invariant.0, level_turns c.args.in_predicate c.args.tier c.loop-class.left (items c.loop-class.tokens), ← c.in-Some.ensures.class, ← c.skip.ensures.items, c.in_err-left-2.ensures.reads other) refl)
 
 pub level-returns-clause-reads : goal.level-returns-clause-reads
-level-returns-clause-reads t c = let e = level_turns c.args.in_predicate c.args.tier c.loop-class.left (items c.loop-class.tokens) in rw (← c.loop-class.invariant.0) (first_of (search rules, grind (arith, common_steps)))
+level-returns-clause-reads t c = rw (← c.loop-class.invariant.0, level_turns c.args.in_predicate c.args.tier c.loop-class.left (items c.loop-class.tokens), ← c.in_default.ensures.class) refl
 
 pub level-loop-class-preserved : goal.level-loop-class-preserved
-level-loop-class-preserved t c = let e = level_turns c.args.in_predicate c.args.tier c.loop-class.left (items c.loop-class.tokens) in (rw (← c.loop-class.invariant.0) (first_of (search rules, grind (arith, common_steps))), (first_of (search rules, grind (arith, common_steps))))
+level-loop-class-preserved t c = (rw (← c.loop-class.invariant.0, level_turns c.args.in_predicate c.args.tier c.loop-class.left (items c.loop-class.tokens), ← c.in-Some.ensures.class, ← c.skip.ensures.items, c.in_ok-left-2.ensures.reads) refl, (first_of (search rules, grind (arith, common_steps))))
 
 pub primary-returns-in_err-map-in-Some-MapName-clause-reads : goal.primary-returns-in_err-map-in-Some-MapName-clause-reads
-primary-returns-in_err-map-in-Some-MapName-clause-reads t c = rw (primary_is (items c.args.tokens.now)) (first_of (search rules, grind (arith, common_steps)))
+primary-returns-in_err-map-in-Some-MapName-clause-reads t c = refused_reads _ _ _ _ c.from_residual.ensures.1 (λ other. rw (primary_is (items c.args.tokens.now), ← c.in-Some-MapName.ensures.class, c.in-Some-MapName.field-0-is, c.in_err-map-in-Some-MapName.ensures.reads other) refl)
 
 pub primary-returns-in_ok-map-in-Some-MapName-clause-reads : goal.primary-returns-in_ok-map-in-Some-MapName-clause-reads
-primary-returns-in_ok-map-in-Some-MapName-clause-reads t c = rw (primary_is (items c.args.tokens.now)) (first_of (search rules, grind (arith, common_steps)))
+primary-returns-in_ok-map-in-Some-MapName-clause-reads t c = rw (primary_is (items c.args.tokens.now), ← c.in-Some-MapName.ensures.class, c.in-Some-MapName.field-0-is, c.in_ok-map-in-Some-MapName.ensures.reads) c.map_value.ensures.reads
 
 pub primary-returns-in-Some-OpenParen-clause-reads : goal.primary-returns-in-Some-OpenParen-clause-reads
-primary-returns-in-Some-OpenParen-clause-reads t c = rw (primary_is (items c.args.tokens.now)) (first_of (search rules, grind (arith, common_steps)))
+primary-returns-in-Some-OpenParen-clause-reads t c = rw (primary_is (items c.args.tokens.now), ← c.in-Some-OpenParen.ensures.class, c.in-Some-OpenParen.field-0-is, ← c.skip-place.ensures.items, ← c.skip-place.ensures.place) c.closed.ensures.reads
 
 pub primary-returns-in-Some-Increment-clause-reads : goal.primary-returns-in-Some-Increment-clause-reads
-primary-returns-in-Some-Increment-clause-reads t c = rw (primary_is (items c.args.tokens.now)) (first_of (search rules, grind (arith, common_steps)))
+primary-returns-in-Some-Increment-clause-reads t c = rw (primary_is (items c.args.tokens.now), ← c.in-Some-Increment.ensures.class, c.in-Some-Increment.field-0-is, ← c.skip-place-in-Some-Increment.ensures.items, ← c.skip-place-in-Some-Increment.ensures.place) c.stepped.ensures.reads
 
 pub primary-returns-in-Some-Decrement-clause-reads : goal.primary-returns-in-Some-Decrement-clause-reads
-primary-returns-in-Some-Decrement-clause-reads t c = rw (primary_is (items c.args.tokens.now)) (first_of (search rules, grind (arith, common_steps)))
+primary-returns-in-Some-Decrement-clause-reads t c = rw (primary_is (items c.args.tokens.now), ← c.in-Some-Decrement.ensures.class, c.in-Some-Decrement.field-0-is, ← c.skip-place-in-Some-Decrement.ensures.items, ← c.skip-place-in-Some-Decrement.ensures.place) c.stepped-in-Some-Decrement.ensures.reads
 
 pub primary-returns-in_default-clause-reads : goal.primary-returns-in_default-clause-reads
 primary-returns-in_default-clause-reads t c = rw (primary_is (items c.args.tokens.now)) (first_of (search rules, grind (arith, common_steps)))
 
 pub unary-returns-in_default-clause-reads : goal.unary-returns-in_default-clause-reads
-unary-returns-in_default-clause-reads t c = rw (unary_is (items c.args.tokens.now)) (first_of (search rules, grind (arith, common_steps)))
+unary-returns-in_default-clause-reads t c = rw (unary_is (items c.args.tokens.now), ← c.in_default.ensures.class) c.primary.ensures.reads
 
 pub unary-returns-in_err-value-clause-reads : goal.unary-returns-in_err-value-clause-reads
-unary-returns-in_err-value-clause-reads t c = rw (unary_is (items c.args.tokens.now)) (first_of (search rules, grind (arith, common_steps)))
+unary-returns-in_err-value-clause-reads t c = refused_reads _ _ _ _ c.from_residual.ensures.1 (λ other. rw (unary_is (items c.args.tokens.now), ← c.in-Some.ensures.class, ← c.skip-place.ensures.items, c.in_err-value.ensures.reads other) refl)
 
 pub unary-returns-clause-reads : goal.unary-returns-clause-reads
-unary-returns-clause-reads t c = made_reads _ _ _ _ c.operated.ensures (rw (unary_is (items c.args.tokens.now)) (first_of (search rules, grind (arith, common_steps))))
+unary-returns-clause-reads t c = made_reads _ _ _ _ c.operated.ensures (rw (unary_is (items c.args.tokens.now), ← c.in-Some.ensures.class, ← c.skip-place.ensures.items, ← c.skip-place.ensures.place, c.in_ok-value.ensures.reads) refl)
 
 pub values-returns-in_err-expression-2-clause-reads : goal.values-returns-in_err-expression-2-clause-reads
-values-returns-in_err-expression-2-clause-reads t c = let e = values_turns c.loop-alloc.values (items c.loop-alloc.tokens) in rw (← c.loop-alloc.invariant.0) (first_of (search rules, grind (arith, common_steps)))
+values-returns-in_err-expression-2-clause-reads t c = refused_reads _ _ _ _ c.from_residual-in_err-expression-2.ensures.1 (λ other. rw (← c.loop-alloc.invariant.0, values_turns c.loop-alloc.values (items c.loop-alloc.tokens), ← c.loop-alloc-test.ensures.class, ← c.skip.ensures.items, c.in_err-expression-2.ensures.reads other) refl)
 
 pub values-returns-clause-reads : goal.values-returns-clause-reads
-values-returns-clause-reads t c = let e = values_turns c.loop-alloc.values (items c.loop-alloc.tokens) in rw (← c.loop-alloc.invariant.0) (first_of (search rules, grind (arith, common_steps)))
+values-returns-clause-reads t c = rw (← c.loop-alloc.invariant.0, values_turns c.loop-alloc.values (items c.loop-alloc.tokens), ← c.loop-alloc-test.ensures.class) refl
 
 pub values-loop-alloc-preserved : goal.values-loop-alloc-preserved
 values-loop-alloc-preserved t c = let e = values_turns c.loop-alloc.values (items c.loop-alloc.tokens) in (rw (← c.loop-alloc.invariant.0) (first_of (search rules, grind (arith, common_steps))), (first_of (search rules, grind (arith, common_steps))))
+
+pub alternatives-returns-in_err-yes-clause-reads : goal.alternatives-returns-in_err-yes-clause-reads
+alternatives-returns-in_err-yes-clause-reads t c = refused_reads _ _ _ _ c.from_residual.ensures.1 (λ other. rw (c.in_err-yes.ensures.reads other) refl)
+
+pub alternatives-returns-in_err-yes-clause-shorter : goal.alternatives-returns-in_err-yes-clause-shorter
+alternatives-returns-in_err-yes-clause-shorter t c = on_err _ _ c.from_residual.ensures.0
+
+pub alternatives-returns-in_err-no-clause-reads : goal.alternatives-returns-in_err-no-clause-reads
+alternatives-returns-in_err-no-clause-reads t c = refused_reads _ _ _ _ c.from_residual-in_err-no.ensures.1 (λ other. rw (c.in_ok-yes.ensures.reads, c.in_err-no.ensures.reads other) refl)
+
+pub alternatives-returns-in_err-no-clause-shorter : goal.alternatives-returns-in_err-no-clause-shorter
+alternatives-returns-in_err-no-clause-shorter t c = on_err _ _ c.from_residual-in_err-no.ensures.0
+
+pub assignable-returns-in_err-keyed-clause-shorter : goal.assignable-returns-in_err-keyed-clause-shorter
+assignable-returns-in_err-keyed-clause-shorter t c = on_err _ _ c.from_residual.ensures.0
+
+pub assignable-returns-in_err-bytes-clause-shorter : goal.assignable-returns-in_err-bytes-clause-shorter
+assignable-returns-in_err-bytes-clause-shorter t c = on_err _ _ c.from_residual-in_err-bytes.ensures.0
+
+pub choice-returns-in_err-both-clause-reads : goal.choice-returns-in_err-both-clause-reads
+choice-returns-in_err-both-clause-reads t c = refused_reads _ _ _ _ c.from_residual.ensures.1 (λ other. rw (c.in_err-both.ensures.reads other) refl)
+
+pub choice-returns-in_err-both-clause-shorter : goal.choice-returns-in_err-both-clause-shorter
+choice-returns-in_err-both-clause-shorter t c = on_err _ _ c.from_residual.ensures.0
+
+pub choice-returns-clause-shorter : goal.choice-returns-clause-shorter
+choice-returns-clause-shorter t c = on_ok _ _ c.in_ok-both.ensures.shorter
+
+pub closed-returns-in_err-inner-clause-reads : goal.closed-returns-in_err-inner-clause-reads
+closed-returns-in_err-inner-clause-reads t c = refused_reads _ _ _ _ c.from_residual.ensures.1 (λ other. rw (c.in_err-inner.ensures.reads other) refl)
+
+pub closed-returns-in_err-inner-clause-shorter : goal.closed-returns-in_err-inner-clause-shorter
+closed-returns-in_err-inner-clause-shorter t c = on_err _ _ c.from_residual.ensures.0
+
+pub closed-returns-clause-shorter : goal.closed-returns-clause-shorter
+closed-returns-clause-shorter t c = on_ok _ _ c.in_ok-inner.ensures.shorter
+
+pub expression-returns-in_err-condition-clause-shorter : goal.expression-returns-in_err-condition-clause-shorter
+expression-returns-in_err-condition-clause-shorter t c = on_err _ _ c.from_residual.ensures.0
+
+pub joined-returns-in_err-right-clause-reads : goal.joined-returns-in_err-right-clause-reads
+joined-returns-in_err-right-clause-reads t c = refused_reads _ _ _ _ c.from_residual.ensures.1 (λ other. rw (← c.tighter.ensures.value, c.in_err-right.ensures.reads other) refl)
+
+pub joined-returns-in_err-right-clause-shorter : goal.joined-returns-in_err-right-clause-shorter
+joined-returns-in_err-right-clause-shorter t c = on_err _ _ c.from_residual.ensures.0
+
+pub joined-returns-clause-shorter : goal.joined-returns-clause-shorter
+joined-returns-clause-shorter t c = on_ok _ _ c.in_ok-right.ensures.shorter
+
+pub keyed-returns-in_err-bytes-clause-shorter : goal.keyed-returns-in_err-bytes-clause-shorter
+keyed-returns-in_err-bytes-clause-shorter t c = on_err _ _ c.from_residual.ensures.0
+
+pub keyed-returns-in_err-keys-clause-shorter : goal.keyed-returns-in_err-keys-clause-shorter
+keyed-returns-in_err-keys-clause-shorter t c = on_err _ _ c.from_residual-in_err-keys.ensures.0
+
+pub keys-returns-in_err-keys-clause-no_longer : goal.keys-returns-in_err-keys-clause-no_longer
+keys-returns-in_err-keys-clause-no_longer t c = on_err _ _ c.from_residual.ensures.0
+
+pub keys-returns-in_err-expect-clause-no_longer : goal.keys-returns-in_err-expect-clause-no_longer
+keys-returns-in_err-expect-clause-no_longer t c = on_err _ _ c.from_residual-in_err-expect.ensures.0
+
+pub level-returns-in_err-left-clause-shorter : goal.level-returns-in_err-left-clause-shorter
+level-returns-in_err-left-clause-shorter t c = on_err _ _ c.from_residual.ensures.0
+
+pub level-returns-in_err-left-2-clause-shorter : goal.level-returns-in_err-left-2-clause-shorter
+level-returns-in_err-left-2-clause-shorter t c = on_err _ _ c.from_residual-in_err-left-2.ensures.0
+
+pub primary-returns-in_err-map-in-Some-MapName-clause-shorter : goal.primary-returns-in_err-map-in-Some-MapName-clause-shorter
+primary-returns-in_err-map-in-Some-MapName-clause-shorter t c = on_err _ _ c.from_residual.ensures.0
+
+pub stepped-returns-in_err-target-clause-reads : goal.stepped-returns-in_err-target-clause-reads
+stepped-returns-in_err-target-clause-reads t c = refused_reads _ _ _ _ c.from_residual.ensures.1 (λ other. rw (c.in_err-target.ensures.reads other) refl)
+
+pub stepped-returns-in_err-target-clause-shorter : goal.stepped-returns-in_err-target-clause-shorter
+stepped-returns-in_err-target-clause-shorter t c = on_err _ _ c.from_residual.ensures.0
+
+pub unary-returns-in_err-value-clause-shorter : goal.unary-returns-in_err-value-clause-shorter
+unary-returns-in_err-value-clause-shorter t c = on_err _ _ c.from_residual.ensures.0
+
+pub value_until-returns-in_err-value-clause-reads : goal.value_until-returns-in_err-value-clause-reads
+value_until-returns-in_err-value-clause-reads t c = refused_reads _ _ _ _ c.from_residual.ensures.1 (λ other. rw (c.in_err-value.ensures.reads other) refl)
+
+pub value_until-returns-in_err-value-clause-shorter : goal.value_until-returns-in_err-value-clause-shorter
+value_until-returns-in_err-value-clause-shorter t c = on_err _ _ c.from_residual.ensures.0
+
+pub value_until-returns-in_err-expect-clause-shorter : goal.value_until-returns-in_err-expect-clause-shorter
+value_until-returns-in_err-expect-clause-shorter t c = on_err _ _ c.from_residual-in_err-expect.ensures.0
+
+pub values-returns-in_err-expression-clause-reads : goal.values-returns-in_err-expression-clause-reads
+values-returns-in_err-expression-clause-reads t c = refused_reads _ _ _ _ c.from_residual.ensures.1 (λ other. rw (c.in_err-expression.ensures.reads other) refl)
+
+pub values-returns-in_err-expression-clause-shorter : goal.values-returns-in_err-expression-clause-shorter
+values-returns-in_err-expression-clause-shorter t c = on_err _ _ c.from_residual.ensures.0
+
+pub values-returns-in_err-push-clause-shorter : goal.values-returns-in_err-push-clause-shorter
+values-returns-in_err-push-clause-shorter t c = on_err _ _ c.from_residual-in_err-push.ensures.0
+
+pub values-returns-in_err-expression-2-clause-shorter : goal.values-returns-in_err-expression-2-clause-shorter
+values-returns-in_err-expression-2-clause-shorter t c = on_err _ _ c.from_residual-in_err-expression-2.ensures.0
+
+pub values-returns-in_err-push-2-clause-shorter : goal.values-returns-in_err-push-2-clause-shorter
+values-returns-in_err-push-2-clause-shorter t c = on_err _ _ c.from_residual-in_err-push-2.ensures.0
+
+pub value_until-returns-in_err-expect-clause-reads : goal.value_until-returns-in_err-expect-clause-reads
+value_until-returns-in_err-expect-clause-reads t c = refused_reads _ _ _ _ c.from_residual-in_err-expect.ensures.1 (λ other. rw c.in_ok-value.ensures.reads (not_passed _ _ _ _ (c.in_err-expect.ensures.reads other)))
+
+pub value_until-returns-clause-reads : goal.value_until-returns-clause-reads
+value_until-returns-clause-reads t c = rw c.in_ok-value.ensures.reads (passed _ _ _ _ _ c.in_ok-expect.ensures.reads)
+
+pub operand-returns-in-None-clause-reads : goal.operand-returns-in-None-clause-reads
+operand-returns-in-None-clause-reads t c = rw c.in-None.is c.unary.ensures.reads
+
+pub operand-returns-in-Some-clause-reads : goal.operand-returns-in-Some-clause-reads
+operand-returns-in-Some-clause-reads t c = rw c.in-Some.is c.level.ensures.reads
+
+pub stepped-returns-clause-reads : goal.stepped-returns-clause-reads
+stepped-returns-clause-reads t c = rw (c.in_ok-target.ensures.reads, c.step_value.ensures) refl
