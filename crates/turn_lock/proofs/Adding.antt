@@ -1,5 +1,7 @@
 -- One more entry, by an object that fits the history.
-use Rattle.std.proofs.Common.{◌≡◌, ℕ, suc, ◌+◌, ◌<◌, max, ◌^◌, Option, Some, SomeIff, Result, Ok, Err, IfOk, OnErr, arith, List, [], ◌∷◌, ◌++◌, sym, refl, ap, ◌∙◌, subst}
+use Rattle.std.proofs.Common.{◌≡◌, ◌⊎◌, inl, inr, ℕ, suc, ◌+◌, ◌-◌, ◌<◌, max, ◌^◌, Option, Some, None, SomeIff, Result, Ok, Err, IfOk, OnErr, arith, List, [], ◌∷◌, ◌++◌, sym, refl, ap, ◌∙◌, subst}
+use mathlib.Core.Logic.{dite}
+use native.Mathlib.Decide.{ℕ_discrete}
 use Rattle.std.proofs.lemmas.List.{append-nil}
 use Rattle.bt_core.specs.declared.step.Op.{Op}
 use Rattle.turn_lock.specs.declared.entry.Entry.{Entry}
@@ -81,3 +83,9 @@ each_left P (x ∷ xs) ys h = (h.0, each_left P xs ys h.1)
 pub above : (l : Law) (c : ℕ) (v w : View) (e : Entry) → Gains l c v w e → (e.floor < e.stamp) × Each (λ x. x.stamp < e.stamp) v.seen
 above l c v w e g = let t = rises_last 0 (v.seen ++ g.more.0) e (subst (Rises 0) g.more.1 g.sees.rises) in
     (t.0, each_left (λ x. x.stamp < e.stamp) v.seen g.more.0 t.2)
+
+-- a clock that has no next stamp stands at its end
+pub at_end : (r : Option ℕ) (n a b : ℕ) → SomeIff r (n + 1 < 2 ^ 64) (n + 1) → r ≡ None → n ≡ max a b → a < 2 ^ 64 → b < 2 ^ 64
+    → (a ≡ 2 ^ 64 - 1) ⊎ (b ≡ 2 ^ 64 - 1)
+at_end r n a b s none is la lb = let over = subst (λ (o : Option ℕ). SomeIff o (n + 1 < 2 ^ 64) (n + 1)) none s in
+    dite (ℕ_discrete a (2 ^ 64 - 1)) (λ e. inl e) (λ ne. inr (omega (arith, over, is, ne)))

@@ -14,6 +14,7 @@ use crate::sleepers::Sleepers;
 use crate::turn::{Joined, Turn};
 use crate::view::{About, Desk, View};
 use atomic_table::{Badge, Seat, Table};
+use bt_core::beside::beside;
 use bt_core::memory::{Memory, fitting};
 use bt_core::step::{ObjectId, Op, Reply};
 use std::alloc::{AllocError, Global};
@@ -34,13 +35,23 @@ pub(crate) type Place<O> = Seat<Option<Desk<O>>, View>;
 ///
 /// Its history is the list of all calls that were answered, in the order of their turns. It may be
 /// shared among threads by reference.
-#[derive(Drop)]
 pub struct TurnLock<O: SeqObject> {
     table: Table<Option<Desk<O>>, View, About<O>, Turns, Global>,
     id: ObjectId,
     sleepers: Sleepers,
     ghost sized: { (table.shared.table_id.words ≡ 2) × (table.shared.table_id.slots ≡ 1) },
     ghost some_callers: { 0 < table.shared.key.callers },
+}
+
+// Written out, so that it is one call wherever such a value is let go.
+impl<O: SeqObject> Drop for TurnLock<O> {
+    fn drop(self) {
+        let Self {
+            table: _,
+            id: _,
+            sleepers: _,
+        } = self;
+    }
 }
 
 impl<O: SeqObject> TurnLock<O> {
@@ -334,13 +345,38 @@ impl<O: SeqObject> TurnLock<O> {
             (id_of r.0 ≡ id) × (kind_of O.kind r.0 ≡ O.kind object) × (callers_of r.0 ≡ callers)) }
         ensures turns { IfOk result (λ r. AreAll r.0 r.1.items × Each IsNew r.1.items) }
     {
-        let about = About {
-            first: Snapshot::of(&object),
-            callers,
-        };
         let sleepers = Sleepers::new(alloc, callers)?;
+        let (lock, first) = Self::around(alloc, object, id, callers, sleepers)?;
+        let turns = lock.deal(alloc, first, callers);
+        beside(lock, turns)
+    }
+
+    // The slot of a table, which has an object that has taken no operation yet.
+    fn slot_of(alloc: Global, object: O) -> Result<Vec<Option<Desk<O>>>, Memory>
+        ensures { IfOk result (λ slots. slots.items ≡ Some (record { object = object; stamp = 0 }) ∷ []) }
+    {
         let mut slots = Vec::with_capacity(alloc, 1)?;
         slots.push_reserved(Some(Desk { object, stamp: 0 }));
+        Ok(slots)
+    }
+
+    // A lock whose callers sleep in these places, and the first seat at its table.
+    fn around(
+        alloc: Global,
+        object: O,
+        id: ObjectId,
+        callers: u32,
+        sleepers: Sleepers,
+    ) -> Result<(TurnLock<O>, Place<O>), Memory>
+        requires callers { 0 < callers }
+        requires object { O.stands_for object [] }
+        ensures lock { IfOk result (λ r.
+            (id_of r.0 ≡ id) × (kind_of O.kind r.0 ≡ O.kind object) × (callers_of r.0 ≡ callers)) }
+        ensures first { IfOk result (λ r. (r.1.table_id ≡ table_of r.0) × (r.1.me ≡ (first_view, []))) }
+    {
+        let first = Snapshot::of(&object);
+        let slots = Self::slot_of(alloc, object)?;
+        let about = About { first, callers };
         // A table that is refused gives its slots back, and no error of the allocator's.
         let Ok((table, first)) = Table::new(alloc, &[0, 0], slots, &about) else {
             return Err(AllocError.into());
@@ -350,8 +386,7 @@ impl<O: SeqObject> TurnLock<O> {
             id,
             sleepers,
         };
-        let turns = lock.deal(alloc, first, callers)?;
-        Ok((lock, turns))
+        Ok((lock, first))
     }
 
     // One seat for all turns.

@@ -22,10 +22,19 @@ pub(crate) struct Waited {
 /// ticket: no more tickets are out than there are callers, so it is alone there.
 ///
 /// No clause says who sleeps or is woken.
-#[derive(Drop)]
 pub(crate) struct Sleepers {
     places: Vec<Parker>,
     patience: Patience,
+}
+
+// Written out, so that it is one call wherever such a value is let go.
+impl Drop for Sleepers {
+    fn drop(self) {
+        let Self {
+            places: _,
+            patience: _,
+        } = self;
+    }
 }
 
 impl Sleepers {
