@@ -3,8 +3,8 @@
 #![tactic(auto)]
 
 #[cfg(test)]
-mod formats;
+mod containers;
 #[cfg(test)]
-mod recordings;
+mod formats;
 #[cfg(test)]
 mod texts;
