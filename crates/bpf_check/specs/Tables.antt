@@ -1,5 +1,6 @@
 -- Tables of what is known at the places of code, for the proofs. No public clause cites them.
 use Rattle.std.specs.Prelude.{◌≡◌, ◌⊎◌, ℕ, zero, suc, ◌+◌, ◌-◌, ◌*◌, ◌<◌, ◌≤◌, Bool, true, false, List, length, Option, Some, None, slice_index_or, slice_set, sum_by}
+use Rattle.bt_core.specs.declared.limits.TheConstants.{CODE_SLOTS}
 use Rattle.bpf_insn.specs.declared.insn.Insn.{Insn}
 use Rattle.bpf_check.specs.declared.known.Known.{Known}
 use Rattle.bpf_check.specs.declared.known.Known.TheVariants.{Unset, Num, Const}
@@ -95,7 +96,7 @@ pub record Advances (old new : List (Option Seen)) (ways : Ways) (next answer : 
   pub below : (p : ℕ) → p < answer → at new p ≡ at old p
   pub more : reached old ≤ reached new
   pub few : AreFew (reached old + 1) ways → HasFew (reached old) old → HasFew (reached new) new
-  pub falls : AreFew (reached old + 1) ways → length old ≤ 4096 → (weight new < weight old) ⊎ ((new ≡ old) × (answer ≡ next))
+  pub falls : AreFew (reached old + 1) ways → length old ≤ CODE_SLOTS → (weight new < weight old) ⊎ ((new ≡ old) × (answer ≡ next))
 
 -- the table as far as it is settled
 pub record IsSettled (t : Sheet) (code : List Insn) (table : List (Option Seen)) (place : ℕ) : Type 0 where

@@ -1,5 +1,6 @@
 // Whether an assignment of states is closed: the least one is sought.
 ghost use Rattle.std.specs.Prelude.{◌≡◌, ◌≤◌, ◌<◌, length, true, false, slice_set, replicate, None, Some, IfOk};
+ghost use Rattle.bt_core.specs.declared.limits.TheConstants.{CODE_SLOTS};
 ghost use Rattle.bpf_check.specs.States.{entry_seen};
 ghost use Rattle.bpf_check.specs.Sheet.{sheet_of};
 ghost use Rattle.bpf_check.specs.Closed.{IsClosedCode};
@@ -48,7 +49,7 @@ fn step_at(
     table: &mut [Option<Seen>],
     at: usize,
 ) -> Option<usize>
-    requires few { length code.now ≤ 4096 }
+    requires few { length code.now ≤ CODE_SLOTS }
     requires settled { IsSettled (sheet_of typed.now payload) code.now table.old at }
     requires inside { at < length code.now }
     ensures { Settles (sheet_of typed.now payload) code.now (work table.old at) table.new result }
@@ -65,7 +66,7 @@ fn step_at(
 /// Whether code of at most 4,096 slots is closed, by a table in which the entry alone is reached. The
 /// cursor goes back to what has changed, and what lies before it is settled.
 pub fn is_closed(typed: &Typed, payload: u32, code: &[Insn], table: &mut [Option<Seen>]) -> bool
-    requires few { length code.now ≤ 4096 }
+    requires few { length code.now ≤ CODE_SLOTS }
     requires start { IsSettled (sheet_of typed.now payload) code.now table.old 0 }
     ensures closed { result ≡ true → IsClosedCode (sheet_of typed.now payload) code.now }
     ensures open { result ≡ false → IsClosedCode (sheet_of typed.now payload) code.now → ⊥ }

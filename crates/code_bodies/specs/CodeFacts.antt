@@ -2,6 +2,7 @@
 use Rattle.std.specs.Prelude.{◌≡◌, ◌≢◌, ◌≤◌, Bool, IsTrue, List, [], ◌∷◌, length}
 use Rattle.std.proofs.Props.{props}
 use Rattle.std.specs.List.{AllByRecursion}
+use Rattle.bt_core.specs.declared.limits.TheConstants.{CODE_SLOTS}
 use Rattle.bpf_insn.specs.declared.insn.Insn.{Insn}
 use Rattle.bpf_insn.specs.Code.{HalvesFollow, IsWellFormed, is_half, is_valid, is_wide}
 use Rattle.code_bodies.specs.Coding.{CanRunCode}
@@ -29,7 +30,7 @@ run_prop code = λ one other i. record {
     begins_prop : IsProp (code ≢ [])
     begins_prop = hlevel props
 
-    few_prop : IsProp (length code ≤ 4096)
+    few_prop : IsProp (length code ≤ CODE_SLOTS)
     few_prop = hlevel props
 
 pub codes_prop : (codes : List (List Insn)) → IsProp (AllByRecursion CanRunCode codes)

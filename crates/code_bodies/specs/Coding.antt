@@ -2,6 +2,7 @@
 use Rattle.std.specs.Prelude.{◌≢◌, ◌≤◌, ℕ, ◌+◌, ◌*◌, List, [], length, map, Option, Some, None, Result, Ok, Err, slice_get}
 use Rattle.bt_ast.specs.declared.attached.Attached.{Attached}
 use Rattle.bt_core.specs.declared.context.Context.{Context}
+use Rattle.bt_core.specs.declared.limits.TheConstants.{CODE_SLOTS, FUEL_OF_A_SLOT}
 use Rattle.bt_core.specs.Interaction.{Interaction, Ended, and_then}
 use Rattle.bpf_insn.specs.declared.insn.Insn.{Insn}
 use Rattle.bpf_insn.specs.declared.trap.Trap.{Trap}
@@ -21,11 +22,11 @@ use Rattle.bt_meaning.specs.Replays.{Replay}
 pub record CanRunCode (code : List Insn) : Type 0 where
   pub well_formed : IsWellFormed code
   pub begins : code ≢ []
-  pub few : length code ≤ 4096
+  pub few : length code ≤ CODE_SLOTS
 
 -- the fuel of code: 4,098 times its slots
 abbrev pub fuel_of : List Insn → ℕ
-fuel_of code = 4098 * length code
+fuel_of code = FUEL_OF_A_SLOT * length code
 
 -- how many instructions a run took that ended by its exit; code that keeps its body does not trap
 abbrev pub count_of : Result EndedRun Trap → ℕ

@@ -1,5 +1,6 @@
 -- Programs of a script's bodies, and the code that they are.
 use Rattle.std.specs.Prelude.{◌≡◌, ℕ, ◌≤◌, List, length, Some, slice_get}
+use Rattle.bt_core.specs.declared.limits.TheConstants.{CODE_SLOTS}
 use Rattle.bpf_insn.specs.declared.insn.Insn.{Insn}
 use Rattle.bpf_encode.specs.Decoding.{IsCodeOf}
 use Rattle.bpf_encode.specs.declared.program.Program.{Program}
@@ -11,7 +12,7 @@ use Rattle.code_bodies.specs.Kept.{KeepsWalk}
 -- the program is this code: its bytes spell it, it has at most 4,096 slots, and for each of them a fuel of 4,098 instructions
 pub record IsProgram (code : List Insn) (program : Program) : Type 0 where
   pub spelt : IsCodeOf code program.bytes
-  pub few : length code ≤ 4096
+  pub few : length code ≤ CODE_SLOTS
   pub fuel : program.fuel ≡ fuel_of code
 
 -- The program keeps a body of the script: its code makes, for every number of actors, actor, context and payload, the calls of the body's

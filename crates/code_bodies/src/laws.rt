@@ -2,6 +2,7 @@
 ghost use Rattle.std.specs.Prelude.{◌≡◌, ◌≤◌, ℕ, List, length};
 ghost use Rattle.std.specs.List.{AllByRecursion};
 ghost use Rattle.bt_ast.specs.declared.attached.Attached.{Attached};
+ghost use Rattle.bt_core.specs.declared.limits.TheConstants.{CODE_SLOTS};
 ghost use Rattle.bt_core.specs.declared.step.Step.{Step};
 ghost use Rattle.bpf_insn.specs.declared.insn.Insn.{Insn};
 ghost use Rattle.recordings.specs.declared.recording.Recording.{Recording};
@@ -31,6 +32,6 @@ pub fn code_means_walks()
 
 /// Codes of at most 4,096 slots take few instructions, whatever is replied.
 pub fn codes_take_few()
-    ensures { (script : Typed) (codes : List (List Insn)) (actors actor : ℕ) → AllByRecursion (λ (code : List Insn). length code ≤ 4096) codes →
+    ensures { (script : Typed) (codes : List (List Insn)) (actors actor : ℕ) → AllByRecursion (λ (code : List Insn). length code ≤ CODE_SLOTS) codes →
         TakesFew (coding script codes actors actor) }
 {}
