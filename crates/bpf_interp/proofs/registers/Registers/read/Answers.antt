@@ -1,5 +1,4 @@
-use Rattle.std.proofs.Common.{◌∙◌, ap, ◌<◌, length, rules, arith}
-use Rattle.bpf_insn.specs.Machine.{reg_of}
+use Rattle.std.proofs.Common.{rules}
 use Rattle.bpf_interp.proofs.Values.{value_set, value_unset}
 use Rattle.bpf_interp.proofs.registers.Registers.read.Goals as goal
 
