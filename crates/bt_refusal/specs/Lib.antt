@@ -1,3 +1,4 @@
 pub mod Orders
 pub mod Lines
 pub mod Refusals
+pub mod Told

@@ -4,7 +4,8 @@ ghost use Rattle.recordings.specs.declared.error.RecordingError.TheVariants as w
 ghost use Rattle.bt_refusal.specs.declared.refusal.Refusal.TheVariants as refusal;
 ghost use Rattle.bt_refusal.specs.declared.refusal.ScriptRefusal.TheVariants as refused;
 ghost use Rattle.bt_refusal.specs.Lines.{Writes, sink_use, Text, Number};
-ghost use Rattle.bt_refusal.specs.Refusals.{account_pieces, count_word, event_pieces, fault_pieces, broken_format_pieces};
+ghost use Rattle.bt_refusal.specs.Refusals.{account_pieces, count_word, event_pieces, fault_pieces, broken_format_pieces, rule_pieces};
+ghost use Rattle.bt_refusal.specs.Told.{number_pieces, told_pieces};
 ghost use Rattle.bt_refusal.specs.Refusals.{recording_pieces, refusal_pieces, rule_text, script_fault_text, script_pieces, size_in, unit_in, usage_pieces};
 ghost use Rattle.bt_refusal.specs.Orders.{files_of, on_account, on_script, operand_name};
 ghost use Rattle.bt_refusal.specs.Refusals.{TellsRefusal};
@@ -18,6 +19,16 @@ use bt_words::order::{FileName, Order};
 use event_layout::error::FormatError;
 use expr_types::fault::Rule;
 use recordings::error::{CountOf, RecordingError};
+
+/// What is told of a fault behind the name of its file and a colon: a text, with or without a number behind it, or what is wrong
+/// with a count, a format or an entry.
+enum Told {
+    Text(&'static str),
+    Numbered(&'static str, u64),
+    Count(CountOf),
+    Format(u32, FormatError),
+    Entry(&'static str, u32, u32),
+}
 
 /// The number that is out of its bounds.
 fn count_word(what: CountOf) -> &'static str
@@ -178,17 +189,28 @@ fn tell_rule_at<E: Sink>(err: &mut E, name: &str, place: u32, rule: &'static str
     write_line(err, &[name, colon, head, place, colon, rule, line]);
 }
 
+/// The rule that the text of a format breaks, and its line where it has one.
+fn rule_told(rule: FormatError) -> (&'static str, Option<u32>)
+    ensures { Text result.0.now ∷ number_pieces result.1 ≡ rule_pieces rule }
+{
+    match rule {
+        FormatError::NoName => ("F1 no name", None),
+        FormatError::BadId => ("F2 bad id", None),
+        FormatError::BadField(line) => ("F3 bad line ", Some(line)),
+        FormatError::Overlong(line) => ("F4 overlong line ", Some(line)),
+        FormatError::SameName(line) => ("F5 same name line ", Some(line)),
+        FormatError::Memory(_) => ("out of memory", None),
+    }
+}
+
 /// Tells which rule the text of a format breaks, and its line where it has one.
 fn tell_format<E: Sink>(err: &mut E, name: &str, place: u32, rule: FormatError)
     ensures { Writes (sink_use E.taken E.faults err.old err.new) (Text name.now ∷ Text (codes ": ") ∷ fault_pieces (wrong.Format place rule)) }
 {
-    match rule {
-        FormatError::NoName => tell_rule(err, name, place, "F1 no name"),
-        FormatError::BadId => tell_rule(err, name, place, "F2 bad id"),
-        FormatError::BadField(line) => tell_rule_at(err, name, place, "F3 bad line ", line),
-        FormatError::Overlong(line) => tell_rule_at(err, name, place, "F4 overlong line ", line),
-        FormatError::SameName(line) => tell_rule_at(err, name, place, "F5 same name line ", line),
-        FormatError::Memory(_) => tell_rule(err, name, place, "out of memory"),
+    let (text, line) = rule_told(rule);
+    match line {
+        None => tell_rule(err, name, place, text),
+        Some(line) => tell_rule_at(err, name, place, text, line),
     }
 }
 
@@ -233,40 +255,67 @@ fn tell_count<E: Sink>(err: &mut E, name: &str, what: CountOf)
     write_line(err, &[Piece::Text(name), colon, head, word]);
 }
 
-/// Tells the first check that the bytes of a recording fail.
-fn tell_fault<E: Sink>(err: &mut E, name: &str, error: RecordingError)
-    ensures { Writes (sink_use E.taken E.faults err.old err.new) (Text name.now ∷ Text (codes ": ") ∷ fault_pieces error) }
+/// What is told of the first check that the bytes of a recording fail.
+fn fault_told(error: RecordingError) -> Told
+    ensures { told_pieces result ≡ fault_pieces error }
 {
     match error {
-        RecordingError::Truncated(offset) => {
-            tell_numbered(err, name, "C1 truncated at byte ", offset)
-        }
-        RecordingError::BadMagic => tell_text(err, name, "C2 bad magic"),
-        RecordingError::Count(what) => tell_count(err, name, what),
-        RecordingError::Format(place, rule) => tell_format(err, name, place, rule),
+        RecordingError::Truncated(offset) => Told::Numbered("C1 truncated at byte ", offset),
+        RecordingError::BadMagic => Told::Text("C2 bad magic"),
+        RecordingError::Count(what) => Told::Count(what),
+        RecordingError::Format(place, rule) => Told::Format(place, rule),
         RecordingError::SameEvent(place) => {
-            tell_numbered(err, name, "C5 same event in format ", u64::from(place))
+            Told::Numbered("C5 same event in format ", u64::from(place))
         }
         RecordingError::CpuNumber(cpu) => {
-            tell_numbered(err, name, "C6 bad cpu number at cpu ", u64::from(cpu))
+            Told::Numbered("C6 bad cpu number at cpu ", u64::from(cpu))
         }
-        RecordingError::TimeOrder(cpu, event) => tell_event(err, name, "C7 time order", cpu, event),
-        RecordingError::UnknownId(cpu, event) => tell_event(err, name, "C8 unknown id", cpu, event),
-        RecordingError::ShortPayload(cpu, event) => {
-            tell_event(err, name, "C9 short payload", cpu, event)
-        }
+        RecordingError::TimeOrder(cpu, event) => Told::Entry("C7 time order", cpu, event),
+        RecordingError::UnknownId(cpu, event) => Told::Entry("C8 unknown id", cpu, event),
+        RecordingError::ShortPayload(cpu, event) => Told::Entry("C9 short payload", cpu, event),
         RecordingError::TrailingBytes(offset) => {
-            tell_numbered(err, name, "C10 trailing bytes at byte ", offset)
+            Told::Numbered("C10 trailing bytes at byte ", offset)
         }
         RecordingError::BadSystem(place) => {
-            tell_numbered(err, name, "C11 bad system in format ", u64::from(place))
+            Told::Numbered("C11 bad system in format ", u64::from(place))
         }
-        RecordingError::BadEntry(cpu, event) => tell_event(err, name, "C12 bad entry", cpu, event),
-        RecordingError::EmptyMark(cpu, event) => {
-            tell_event(err, name, "C13 empty mark", cpu, event)
-        }
-        RecordingError::Memory => tell_text(err, name, "out of memory"),
+        RecordingError::BadEntry(cpu, event) => Told::Entry("C12 bad entry", cpu, event),
+        RecordingError::EmptyMark(cpu, event) => Told::Entry("C13 empty mark", cpu, event),
+        RecordingError::Memory => Told::Text("out of memory"),
     }
+}
+
+/// What is told of the first thing that is wrong with an account.
+fn account_told(error: AccountError) -> Told
+    ensures { told_pieces result ≡ account_pieces error }
+{
+    match error {
+        AccountError::BadAccount(offset) => Told::Numbered("N1 bad account at byte ", offset),
+        AccountError::WrongStep(step) => Told::Numbered("N2 wrong step ", step),
+        AccountError::Unfinished => Told::Text("N3 unfinished"),
+        AccountError::WrongText(offset) => Told::Numbered("N4 wrong text at byte ", offset),
+        AccountError::Memory(_) => Told::Text("out of memory"),
+    }
+}
+
+/// Tells a fault behind the name of its file.
+fn tell_fault<E: Sink>(err: &mut E, name: &str, told: Told)
+    ensures { Writes (sink_use E.taken E.faults err.old err.new) (Text name.now ∷ Text (codes ": ") ∷ told_pieces told) }
+{
+    match told {
+        Told::Text(text) => tell_text(err, name, text),
+        Told::Numbered(text, number) => tell_numbered(err, name, text, number),
+        Told::Count(what) => tell_count(err, name, what),
+        Told::Format(place, rule) => tell_format(err, name, place, rule),
+        Told::Entry(what, cpu, event) => tell_event(err, name, what, cpu, event),
+    }
+}
+
+/// Tells a text behind the name of a file. It begins with what parts it from the name.
+fn tell_behind<E: Sink>(err: &mut E, name: &str, text: &'static str)
+    ensures { Writes (sink_use E.taken E.faults err.old err.new) (Text name.now ∷ Text text.now ∷ []) }
+{
+    write_line(err, &[Piece::Text(name), Piece::Text(text)]);
 }
 
 /// Tells why a recording is refused.
@@ -274,13 +323,8 @@ fn tell_recording<E: Sink>(err: &mut E, name: &str, why: RecordingRefusal)
     ensures { Writes (sink_use E.taken E.faults err.old err.new) (Text name.now ∷ recording_pieces why) }
 {
     match why {
-        RecordingRefusal::TooLong => {
-            write_line(
-                err,
-                &[Piece::Text(name), Piece::Text(": recording too long")],
-            )
-        }
-        RecordingRefusal::Fault(error) => tell_fault(err, name, error),
+        RecordingRefusal::TooLong => tell_behind(err, name, ": recording too long"),
+        RecordingRefusal::Fault(error) => tell_fault(err, name, fault_told(error)),
     }
 }
 
@@ -312,27 +356,8 @@ fn tell_script<E: Sink>(err: &mut E, name: &str, why: ScriptRefusal)
     ensures { Writes (sink_use E.taken E.faults err.old err.new) (Text name.now ∷ script_pieces why) }
 {
     match why {
-        ScriptRefusal::TooLong => {
-            write_line(err, &[Piece::Text(name), Piece::Text(": script too long")])
-        }
+        ScriptRefusal::TooLong => tell_behind(err, name, ": script too long"),
         ScriptRefusal::Fault(fault, place) => tell_place(err, name, fault, place),
-    }
-}
-
-/// Tells what is wrong with an account.
-fn tell_account<E: Sink>(err: &mut E, name: &str, error: AccountError)
-    ensures { Writes (sink_use E.taken E.faults err.old err.new) (Text name.now ∷ Text (codes ": ") ∷ account_pieces error) }
-{
-    match error {
-        AccountError::BadAccount(offset) => {
-            tell_numbered(err, name, "N1 bad account at byte ", offset)
-        }
-        AccountError::WrongStep(step) => tell_numbered(err, name, "N2 wrong step ", step),
-        AccountError::Unfinished => tell_text(err, name, "N3 unfinished"),
-        AccountError::WrongText(offset) => {
-            tell_numbered(err, name, "N4 wrong text at byte ", offset)
-        }
-        AccountError::Memory(_) => tell_text(err, name, "out of memory"),
     }
 }
 
@@ -345,7 +370,10 @@ fn tell_denial<E: Sink>(err: &mut E, order: &Order, why: Denial)
             let name = operand_name(order, Operand::Script);
             tell_numbered(err, name, "code refused in probe ", u64::from(why.probe))
         }
-        Denial::Account(error) => tell_account(err, operand_name(order, Operand::Account), error),
+        Denial::Account(error) => {
+            let name = operand_name(order, Operand::Account);
+            tell_fault(err, name, account_told(error))
+        }
     }
 }
 
@@ -384,15 +412,15 @@ fn tell<E: Sink>(err: &mut E, order: &Order, refusal: Refusal)
             why,
         ),
         Refusal::ReadFault(operand) => {
-            let name = Piece::Text(operand_name(order, operand));
-            write_line(err, &[name, Piece::Text(": read fault")])
+            tell_behind(err, operand_name(order, operand), ": read fault")
         }
         Refusal::WriteFault => write_line(err, &[Piece::Text("write fault")]),
         Refusal::Memory => tell_memory(err),
-        Refusal::LongAccount => {
-            let name = Piece::Text(operand_name(order, Operand::Account));
-            write_line(err, &[name, Piece::Text(": account too long")])
-        }
+        Refusal::LongAccount => tell_behind(
+            err,
+            operand_name(order, Operand::Account),
+            ": account too long",
+        ),
         Refusal::Denied(why) => tell_denial(err, order, why),
     }
 }

@@ -30,7 +30,6 @@ pub struct Turn {
 }
 
 /// A run on one thread: its objects, the last stamp of each actor and of all, and the steps in the order in which they were made.
-#[derive(Drop)]
 pub struct Running {
     pub cpus: u32,
     pub ticks: u32,
@@ -40,6 +39,42 @@ pub struct Running {
     pub top: u64,
     pub steps: StepList,
     pub turn: Turn,
+}
+
+// Written out, so that it is one call wherever such a value is let go.
+impl Drop for Running {
+    fn drop(self) {
+        let Self {
+            cpus: _,
+            ticks: _,
+            maps: _,
+            objects: _,
+            lasts: _,
+            top: _,
+            steps: _,
+            turn: _,
+        } = self;
+    }
+}
+
+impl Running {
+    /// The objects and the steps.
+    fn into_parts(self) -> (Objects, StepList)
+        ensures objects { result.0 ≡ self.objects }
+        ensures steps { result.1 ≡ self.steps }
+    {
+        let Self {
+            cpus: _,
+            ticks: _,
+            maps: _,
+            objects,
+            lasts: _,
+            top: _,
+            steps,
+            turn: _,
+        } = self;
+        (objects, steps)
+    }
 }
 
 /// Makes the steps of the actor whose turn it is, and stamps each with one more than the greater of the actor's clock and the
@@ -203,16 +238,6 @@ impl SerialPort {
         ensures { IsLeft self result.0 (steps_in result.1) }
     {
         let SerialPort { run } = self;
-        let Running {
-            cpus: _,
-            ticks: _,
-            maps: _,
-            objects,
-            lasts: _,
-            top: _,
-            steps,
-            turn: _,
-        } = run;
-        (objects, steps)
+        run.into_parts()
     }
 }

@@ -1,10 +1,11 @@
 -- The objects of a run stand for its steps without their clocks too.
-use Rattle.std.proofs.Common.{◌≡◌, ℕ, zero, suc, ◌<◌, List, [], ◌∷◌, length, map, get_or, drop, sym, ap, ◌∙◌, subst, arith}
-use Rattle.std.proofs.lemmas.List.{get_or-map, length-map}
+use Rattle.std.proofs.Common.{◌≡◌, ℕ, zero, suc, ◌<◌, List, [], ◌∷◌, ◌++◌, Vec, Global, length, map, get_or, drop, sym, ap, ◌∙◌, subst, arith}
+use Rattle.std.proofs.lemmas.List.{get_or-map, length-map, map-append}
 use Rattle.bt_core.specs.declared.step.ObjectId.{ObjectId}
 use Rattle.bt_core.specs.declared.step.ObjectId.TheVariants.{Shared, Cpu}
 use Rattle.bt_core.specs.declared.step.Op.{Op}
 use Rattle.bt_core.specs.declared.step.Step.{Step}
+use Rattle.step_objects.specs.declared.shared.SharedPart.{SharedPart}
 use Rattle.step_objects.specs.CpuTables.{map_at}
 use Rattle.step_objects.specs.Objects.{shared_kind, SharedStands, cpu_kind, CpuStands}
 use Rattle.run_objects.specs.Worlds.{World}
@@ -14,6 +15,16 @@ use Rattle.run_objects.specs.declared.objects.Objects.{Objects}
 use Rattle.run_objects.specs.declared.own.OwnObject.{OwnObject}
 use Rattle.run_objects.specs.Closed.{object_of, objects_in, part_list, AreParts, MapsStand}
 use Rattle.run_objects.specs.Objects.{StandsAt, AllStandAt, AllStand, IsPartOf, PartsStand, Stand}
+
+-- one object more, and the parts of one map more
+pub object_more : {O : Type 0} (yielded : List (OwnObject O)) (own : OwnObject O) (list next : List O) → list ≡ map object_of yielded → next ≡ list ++ own.object ∷ []
+    → next ≡ map object_of (yielded ++ own ∷ [])
+object_more yielded own list next e n = n ∙ (ap (λ (l : List _). l ++ own.object ∷ []) e ∙ sym (map-append object_of yielded (own ∷ [])))
+
+pub parts_more : (yielded : List MapParts) (held : MapParts) (all next : List (Vec SharedPart Global)) (x : Vec SharedPart Global) → map part_list all ≡ map objects_in yielded
+    → x.items ≡ map object_of held.parts.items → next ≡ all ++ x ∷ [] → map part_list next ≡ map objects_in (yielded ++ held ∷ [])
+parts_more yielded held all next x e one n =
+    ap (map part_list) n ∙ (map-append part_list all (x ∷ []) ∙ ((λ i. e i ++ one i ∷ []) ∙ sym (map-append objects_in yielded (held ∷ []))))
 
 -- what holds of each place of the one list holds of each place of the other
 each_same : {X Y Z : Type 0} (f : X → Z) (g : Y → Z) (P : ℕ → Z → Type 0) (xs : List X) (ys : List Y) → map f xs ≡ map g ys

@@ -1,8 +1,9 @@
 -- What is to be read of a map after the steps of a run, over all objects that hold it.
-use Rattle.std.proofs.Common.{◌≡◌, ◌⊎◌, ℕ, zero, suc, ◌+◌, ◌<◌, ◌≤◌, List, [], ◌∷◌, ◌++◌, length, map, sum, get_or, drop, refl, sym, ap, ◌∙◌, subst, inl, inr, arith, append-nil}
+use Rattle.std.proofs.Common.{◌≡◌, ◌⊎◌, ℕ, zero, suc, ◌+◌, ◌<◌, ◌≤◌, List, [], ◌∷◌, ◌++◌, length, map, sum, get_or, drop, refl, sym, ap, ◌∙◌, subst, inl, inr, arith, append-nil, append_assoc}
 use Rattle.std.specs.Prelude.{All, Option, Some, None, IsSomeAnd, slice_get}
 use Rattle.std.specs.List.{range_with_len}
-use Rattle.std.proofs.lemmas.List.{drop_all}
+use Rattle.std.proofs.lemmas.List.{drop_all, drop_more}
+use Rattle.std.proofs.lemmas.Option.{slice_get-get_or}
 use Rattle.std.proofs.lemmas.List.Elements.{All-nil}
 use Rattle.bt_core.specs.declared.limits.TheConstants.{PARTS}
 use Rattle.bt_core.specs.declared.map.AggKind.{AggKind}
@@ -110,6 +111,26 @@ module _ (at : Moment) (m : MapId) (decl : MapDecl) (there : slice_get at.world.
 pub maps_long : {A : Type 0} (f : MapId → MapDecl → A) (n : ℕ) (decls : List MapDecl) → length (of_maps f n decls) ≡ length decls
 maps_long f n [] = refl
 maps_long f n (d ∷ ds) = let r = maps_long f (n + 1) ds in omega arith
+
+pub maps_begin : {A : Type 0} (f : MapId → MapDecl → A) (got : List A) (decls : List MapDecl) → got ≡ [] → got ++ of_maps f 0 (drop 0 decls) ≡ of_maps f 0 decls
+maps_begin f got decls e = ap (λ (l : List _). l ++ of_maps f 0 decls) e
+
+pub maps_more : {A : Type 0} (f : MapId → MapDecl → A) (got new : List A) (k : ℕ) (decl : MapDecl) (decls : List MapDecl) (x : A) → k < length decls
+    → decl ≡ get_or decls k decl → got ++ of_maps f k (drop k decls) ≡ of_maps f 0 decls → x ≡ f (record { 0 = k }) decl → new ≡ got ++ x ∷ []
+    → new ++ of_maps f (k + 1) (drop (k + 1) decls) ≡ of_maps f 0 decls
+maps_more f got new k decl decls x within is h one n =
+    let rest = of_maps f (k + 1) (drop (k + 1) decls) in
+    ap (λ (l : List _). l ++ rest) n
+    ∙ (append_assoc got (x ∷ []) rest
+    ∙ (ap (λ (y : _). got ++ (y ∷ rest)) one
+    ∙ (ap (λ (d : MapDecl). got ++ (f (record { 0 = k }) d ∷ rest)) is
+    ∙ (ap (λ (l : List MapDecl). got ++ of_maps f k l) (sym (drop_more decls k decl within)) ∙ h))))
+
+-- the map of a place, by its number
+pub map_there : (at : Moment) (maps : List MapDecl) (k n : ℕ) (decl : MapDecl) → at.world.maps ≡ maps → k < length maps → decl ≡ get_or maps k decl → n ≡ k
+    → slice_get at.world.maps n ≡ Some decl
+map_there at maps k n decl same within is number =
+    ap (λ (l : List MapDecl). slice_get l n) same ∙ (ap (slice_get maps) number ∙ (slice_get-get_or maps k decl within ∙ ap Some (sym is)))
 
 pub maps_done : {A : Type 0} (f : MapId → MapDecl → A) (got : List A) (k : ℕ) (decls : List MapDecl) → length decls ≤ k → got ++ of_maps f k (drop k decls) ≡ of_maps f 0 decls → got ≡ of_maps f 0 decls
 maps_done f got k decls le e = sym (append-nil got) ∙ sym (ap (λ l. got ++ of_maps f k l) (drop_all k decls le)) ∙ e

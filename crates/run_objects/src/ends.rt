@@ -68,6 +68,40 @@ fn lost_of(closed: &Closed, map: MapId, decl: &MapDecl) -> Result<u64, Memory>
     }
 }
 
+/// What is to be printed of each map.
+fn rows_of_maps(
+    alloc: Global,
+    maps: &[MapDecl],
+    closed: &Closed,
+) -> Result<Vec<Items<(Key, Cell)>>, Memory>
+    ghost at: { Moment }
+    requires closed { AreClosedAt at closed.now }
+    requires maps { at.world.maps ≡ maps.now }
+    ensures { IfOk result (λ rows. rows.items ≡ of_maps (rows_after at.world.maps at.world.cpus at.steps) 0 maps.now) }
+{
+    let mut rows = Vec::new(alloc);
+    for (map, decl) in maps.iter().enumerate() {
+        let map = MapId(number(map)?);
+        rows.push(rows_of(alloc, closed, map, decl)?)?;
+    }
+    Ok(rows)
+}
+
+/// How many updates of each map were lost.
+fn lost_of_maps(alloc: Global, maps: &[MapDecl], closed: &Closed) -> Result<Vec<u64>, Memory>
+    ghost at: { Moment }
+    requires closed { AreClosedAt at closed.now }
+    requires maps { at.world.maps ≡ maps.now }
+    ensures { IfOk result (λ lost. lost.items ≡ of_maps (lost_after at.world.maps at.world.cpus at.steps) 0 maps.now) }
+{
+    let mut lost = Vec::new(alloc);
+    for (map, decl) in maps.iter().enumerate() {
+        let map = MapId(number(map)?);
+        lost.push(lost_of(closed, map, decl)?)?;
+    }
+    Ok(lost)
+}
+
 /// What is to be printed of each map, and how many of its updates were lost, as the objects of a run that has ended tell it.
 ///
 /// # Errors
@@ -84,12 +118,7 @@ pub fn read_maps(
     ensures rows { IfOk result (λ r. r.0.items ≡ of_maps (rows_after at.world.maps at.world.cpus at.steps) 0 maps.now) }
     ensures lost { IfOk result (λ r. r.1.items ≡ of_maps (lost_after at.world.maps at.world.cpus at.steps) 0 maps.now) }
 {
-    let mut rows = Vec::new(alloc);
-    let mut lost = Vec::new(alloc);
-    for (map, decl) in maps.iter().enumerate() {
-        let map = MapId(number(map)?);
-        rows.push(rows_of(alloc, closed, map, decl)?)?;
-        lost.push(lost_of(closed, map, decl)?)?;
-    }
+    let rows = rows_of_maps(alloc, maps, closed)?;
+    let lost = lost_of_maps(alloc, maps, closed)?;
     Ok((rows, lost))
 }

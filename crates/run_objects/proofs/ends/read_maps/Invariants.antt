@@ -1,15 +1,7 @@
-use Rattle.std.proofs.Common.{◌≡◌, ◌++◌, drop}
-use Rattle.bt_meaning.specs.Prints.{rows_after, lost_after, of_maps}
 use Rattle.run_objects.proofs.ends.read_maps.Given as goal
 
-abbrev pub ghost-rows_of : goal.ghost-rows_of
-ghost-rows_of g a = g.at
+abbrev pub ghost-rows_of_maps : goal.ghost-rows_of_maps
+ghost-rows_of_maps g a = g.at
 
-abbrev pub ghost-lost_of : goal.ghost-lost_of
-ghost-lost_of g a = g.at
-
-abbrev pub invariant-loop-map : goal.invariant-loop-map
-invariant-loop-map g l = record {
-  rows : l.rows.items ++ of_maps (rows_after g.at.world.maps g.at.world.cpus g.at.steps) l.map (drop l.map l.maps) ≡ of_maps (rows_after g.at.world.maps g.at.world.cpus g.at.steps) 0 l.maps;
-  lost : l.lost.items ++ of_maps (lost_after g.at.world.maps g.at.world.cpus g.at.steps) l.map (drop l.map l.maps) ≡ of_maps (lost_after g.at.world.maps g.at.world.cpus g.at.steps) 0 l.maps;
-}
+abbrev pub ghost-lost_of_maps : goal.ghost-lost_of_maps
+ghost-lost_of_maps g a = g.at
