@@ -1,0 +1,28 @@
+use Rattle.std.proofs.Common.{refl, sym, subst}
+use Rattle.turn_lock.specs.History.{Each}
+use Rattle.turn_lock.proofs.HistoryLemmas.{Each-snoc}
+use Rattle.thread_actors.specs.Tasks.{turns_in, trace_in, count_in, HasEnded, HasEndedWell}
+use Rattle.thread_actors.proofs.Rowing.{one_behind, sum_behind}
+use Rattle.thread_actors.proofs.tasks.gather.Goals as goal
+
+pub loop-task-init : goal.loop-task-init
+loop-task-init g c = record {
+  turns = c.new.ensures.items;
+  traces = c.new-2.ensures.items;
+  instructions = refl;
+  well = tt;
+  left = subst (Each HasEnded) (sym c.into_iter-task-iterator.ensures.into_iter_gives.0) c.requires.ended;
+}
+
+pub add_task-requires : goal.add_task-requires
+add_task-requires g c = record { ended = (subst (Each HasEnded) c.in-Some.ensures.steps.0 c.loop-task.invariant.left).0 }
+
+pub loop-task-preserved : goal.loop-task-preserved
+loop-task-preserved g c =
+    let before = c.loop-task.yielded in let task = c.in-Some.task in let all = c.loop-task.invariant in let more = c.in_ok-add_task.ensures in record {
+      turns = one_behind turns_in before task _ _ all.turns more.turns;
+      traces = one_behind trace_in before task _ _ all.traces more.traces;
+      instructions = sum_behind count_in before task _ _ all.instructions more.instructions;
+      well = Each-snoc HasEndedWell before task all.well more.well;
+      left = (subst (Each HasEnded) c.in-Some.ensures.steps.0 all.left).1;
+    }
