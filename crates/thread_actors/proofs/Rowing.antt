@@ -25,3 +25,11 @@ one_behind f xs x old new h n = n ∙ (ap (λ (ys : List _). ys ++ f x ∷ []) h
 pub sum_behind : {X : Type 0} (f : X → ℕ) (xs : List X) (x : X) (old new : ℕ) → old ≡ sum (map f xs) → new ≡ old + f x → new ≡ sum (map f (xs ++ x ∷ []))
 sum_behind f xs x old new h n =
     n ∙ (ap (λ (k : ℕ). k + f x) h ∙ (sym (sum_by-append (λ y. y) (map f xs) (f x ∷ []) ∙ omega arith) ∙ ap sum (sym (map-append f xs (x ∷ [])))))
+
+-- items that were gone over, with those that are left
+pub one_gone : {X : Type 0} (gone : List X) (x : X) (left rest whole : List X) → left ≡ x ∷ rest → gone ++ left ≡ whole → (gone ++ x ∷ []) ++ rest ≡ whole
+one_gone gone x left rest whole l h = append_assoc gone (x ∷ []) rest ∙ (ap (λ (ys : List _). gone ++ ys) (sym l) ∙ h)
+
+pub all_gone_over : {X : Type 0} (gone left whole : List X) → 0 ≡ length left → gone ++ left ≡ whole → gone ≡ whole
+all_gone_over gone [] whole e h = sym (append-nil gone) ∙ h
+all_gone_over gone (y ∷ left) whole e h = absurd (omega (arith, e))
