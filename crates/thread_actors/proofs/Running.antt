@@ -56,6 +56,12 @@ some_and : {T : Type 0} (P : T → Type 0) (r : Option T) → IsSomeAnd r P → 
 some_and P None h = absurd h
 some_and P (Some x) h = refl
 
+-- workers that can run, in a list that is the same
+pub ready_in : {B G : Type 0} (plan : B → Plan) (world : SharedWorld) (tasks same : List (Task B G)) → same ≡ tasks
+    → ((i : ℕ) (d : Task B G) → i < length tasks → IsReady plan world (get_or tasks i d).worker)
+    → (i : ℕ) (d : Task B G) → i < length same → IsReady plan world (get_or same i d).worker
+ready_in {B} {G} plan world tasks same e h = subst (λ (l : List (Task B G)). (i : ℕ) (d : Task B G) → i < length l → IsReady plan world (get_or l i d).worker) (sym e) h
+
 -- workers that ran have kept how that ended
 pub all_ended : {B G : Type 0} (plan : B → Plan) (world : SharedWorld) (olds news : List (Task B G)) → length news ≡ length olds
     → ((i : ℕ) (d : Task B G) → i < length olds → HasRun plan world (get_or olds i d) (get_or news i d)) → Each HasEnded news

@@ -78,7 +78,7 @@ fn counted(begun: u64, cpus: u64, finished: u64) -> Result<u64, Memory>
     ensures { IfOk result (λ count. count ≡ begun + cpus + finished) }
 {
     let both = sum(begun, cpus)?;
-    Ok(sum(both, finished)?)
+    sum(both, finished)
 }
 
 /// Puts the main actor's turns and trace behind those of the CPUs, and counts the instructions of `BEGIN` and `END` with theirs.
@@ -90,14 +90,11 @@ fn add_main<B: Bodies + Drop>(
 ) -> Result<(), Memory>
     ensures { OnOk result (IsWithMain main begun finished all.old all.new) }
 {
-    all.instructions = counted(begun, all.instructions, finished)?;
-    let MainActor {
-        bodies,
-        turns,
-        trace,
-    } = main;
+    let (bodies, turns, trace) = main.into_parts();
     drop(bodies);
-    push_both(&mut all.turns, &mut all.traces, turns, trace)
+    push_both(&mut all.turns, &mut all.traces, turns, trace)?;
+    all.instructions = counted(begun, all.instructions, finished)?;
+    Ok(())
 }
 
 /// Runs `END`, from the latest clock on, and puts what the main actor leaves behind what the CPUs left.
@@ -116,7 +113,7 @@ fn end_all<B: Bodies + Drop, G: Gate, R: Wait>(
     ensures { IfOk result (λ left. HasEndedAll B.plan world.now main begun all left) }
 {
     main.trace.raise(latest_clock(all.traces.as_slice()));
-    let finished = end(rt, alloc, world, gate, &mut main)?;
+    let (main, finished) = end(rt, alloc, world, gate, main)?;
     add_main(main, begun, finished, &mut all)?;
     Ok(all)
 }
@@ -140,8 +137,8 @@ pub fn run_actors<B: Bodies + Drop + Send, G: Gate + Sync, R: Threads + Wait + S
     ensures { IfOk result (λ all. (plans : ℕ → Plan) → HavePlans B.plan (world_cpus world.now + 1) plans bodies.items →
         AreDone (replay_in world.now plans) world.now all) }
 {
-    let mut main = main_actor(alloc, world, &mut bodies, &mut turns);
-    let begun = begin(rt, alloc, world, gate, &mut main)?;
+    let main = main_actor(alloc, world, &mut bodies, &mut turns);
+    let (main, begun) = begin(rt, alloc, world, gate, main)?;
     let clock = main.trace.clock();
     let all = run_cpus(rt, alloc, world, gate, bodies, turns, clock)?;
     end_all(rt, alloc, world, gate, main, begun, all)

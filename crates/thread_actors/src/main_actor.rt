@@ -7,81 +7,109 @@ ghost use Rattle.thread_actors.specs.Acts.{HasDone};
 
 use actor_plan::bodies::Bodies;
 use actor_plan::program::{run_begin, run_end};
+use bt_core::beside::beside;
 use bt_core::memory::Memory;
 use cpu_worker::world::{SharedWorld, WorkerTurns};
 use cpu_worker::world_port::WorldPort;
 use stamped::trace::Trace;
 use std::alloc::Global;
-use std::mem;
 use std::sync::Wait;
 use turn_lock::gate::Gate;
 
 /// The main actor, with its bodies, its turns and its trace.
-#[derive(Drop)]
 pub(crate) struct MainActor<B> {
     pub(crate) bodies: B,
     pub(crate) turns: WorkerTurns,
     pub(crate) trace: Trace,
 }
 
-/// Runs the bodies of `BEGIN`, and tells how many instructions they took.
-pub(crate) fn begin<B: Bodies, G: Gate, R: Wait>(
+// Written out, so that it is one call wherever such a value is let go.
+impl<B: Drop> Drop for MainActor<B> {
+    fn drop(self) {
+        let Self {
+            bodies: _,
+            turns: _,
+            trace: _,
+        } = self;
+    }
+}
+
+impl<B: Drop> MainActor<B> {
+    /// Its bodies, its turns and its trace.
+    pub(crate) fn into_parts(self) -> (B, WorkerTurns, Trace)
+        ensures bodies { result.0 ≡ self.bodies }
+        ensures turns { result.1 ≡ self.turns }
+        ensures trace { result.2 ≡ self.trace }
+    {
+        let MainActor {
+            bodies,
+            turns,
+            trace,
+        } = self;
+        (bodies, turns, trace)
+    }
+}
+
+/// Runs the bodies of `BEGIN`. Gives the main actor as it is then, and how many instructions they took.
+pub(crate) fn begin<B: Bodies + Drop, G: Gate, R: Wait>(
     rt: &R,
     alloc: Global,
     world: &SharedWorld,
     gate: &G,
-    main: &mut MainActor<B>,
-) -> Result<u64, Memory>
+    main: MainActor<B>,
+) -> Result<(MainActor<B>, u64), Memory>
     requires replay { CanReplay world.now }
-    requires turns { AreTurnsOf (sets_in world.now) (actor_of main.old.trace) main.old.turns }
-    requires plan { IsPlanIn world.now (actor_of main.old.trace) (B.plan main.old.bodies) }
-    ensures { IfOk result (λ count. HasDone B.plan world.now
-        (begin_program (B.plan main.old.bodies) world.now.recording.now world.now.attached.now) main.old main.new count) }
+    requires turns { AreTurnsOf (sets_in world.now) (actor_of main.trace) main.turns }
+    requires plan { IsPlanIn world.now (actor_of main.trace) (B.plan main.bodies) }
+    ensures { IfOk result (λ r. HasDone B.plan world.now
+        (begin_program (B.plan main.bodies) world.now.recording.now world.now.attached.now) main r.0 r.1) }
 {
-    let actor = main.turns.tables.actor();
-    let turns = mem::replace(&mut main.turns, WorkerTurns::none(alloc, actor));
-    let trace = mem::replace(&mut main.trace, Trace::new(alloc, actor));
+    let (mut bodies, turns, trace) = main.into_parts();
     let mut port = WorldPort::new(rt, world, turns, trace, gate);
     let count = run_begin(
         alloc,
-        &mut main.bodies,
+        &mut bodies,
         world.recording,
         world.attached,
         &mut port,
     );
     let (turns, trace) = port.into_parts();
-    main.turns = turns;
-    main.trace = trace;
-    count
+    let main = MainActor {
+        bodies,
+        turns,
+        trace,
+    };
+    beside(main, count)
 }
 
-/// Runs the bodies of `END`, and tells how many instructions they took.
-pub(crate) fn end<B: Bodies, G: Gate, R: Wait>(
+/// Runs the bodies of `END`. Gives the main actor as it is then, and how many instructions they took.
+pub(crate) fn end<B: Bodies + Drop, G: Gate, R: Wait>(
     rt: &R,
     alloc: Global,
     world: &SharedWorld,
     gate: &G,
-    main: &mut MainActor<B>,
-) -> Result<u64, Memory>
+    main: MainActor<B>,
+) -> Result<(MainActor<B>, u64), Memory>
     requires replay { CanReplay world.now }
-    requires turns { AreTurnsOf (sets_in world.now) (actor_of main.old.trace) main.old.turns }
-    requires plan { IsPlanIn world.now (actor_of main.old.trace) (B.plan main.old.bodies) }
-    ensures { IfOk result (λ count. HasDone B.plan world.now
-        (end_program (B.plan main.old.bodies) world.now.recording.now world.now.attached.now) main.old main.new count) }
+    requires turns { AreTurnsOf (sets_in world.now) (actor_of main.trace) main.turns }
+    requires plan { IsPlanIn world.now (actor_of main.trace) (B.plan main.bodies) }
+    ensures { IfOk result (λ r. HasDone B.plan world.now
+        (end_program (B.plan main.bodies) world.now.recording.now world.now.attached.now) main r.0 r.1) }
 {
-    let actor = main.turns.tables.actor();
-    let turns = mem::replace(&mut main.turns, WorkerTurns::none(alloc, actor));
-    let trace = mem::replace(&mut main.trace, Trace::new(alloc, actor));
+    let (mut bodies, turns, trace) = main.into_parts();
     let mut port = WorldPort::new(rt, world, turns, trace, gate);
     let count = run_end(
         alloc,
-        &mut main.bodies,
+        &mut bodies,
         world.recording,
         world.attached,
         &mut port,
     );
     let (turns, trace) = port.into_parts();
-    main.turns = turns;
-    main.trace = trace;
-    count
+    let main = MainActor {
+        bodies,
+        turns,
+        trace,
+    };
+    beside(main, count)
 }

@@ -59,7 +59,7 @@ pub(crate) fn new_tasks<'g, B: Bodies + Drop, G: Gate>(
     ensures turns { IfOk result (λ tasks. map turns_in tasks.items ≡ turns.items) }
     ensures fresh { IfOk result (λ tasks. Each (IsFresh clock) tasks.items) }
 {
-    let mut tasks = Vec::with_capacity(alloc, bodies.len())?;
+    let mut tasks = Vec::new(alloc);
     for (own, own_turns) in bodies.into_iter().zip(turns) {
         tasks.push(new_task(alloc, own, own_turns, clock, gate))?;
     }
@@ -88,7 +88,7 @@ fn count_with(instructions: u64, ended: Option<Result<Outcome, Memory>>) -> Resu
     ensures well { IfOk result (λ _. IsWell ended) }
 {
     let outcome = ended.unwrap()?;
-    Ok(sum(instructions, outcome.instructions)?)
+    sum(instructions, outcome.instructions)
 }
 
 /// Puts what a worker leaves, which was run, behind what others left, or answers [`Memory`] where its run ended so.
@@ -100,9 +100,10 @@ fn add_task<B: Bodies + Drop, G: Gate>(task: Task<B, G>, all: &mut Gathered) -> 
     ensures well { IfOk result (λ _. HasEndedWell task.entry) }
 {
     let Task { worker, ended } = task;
-    all.instructions = count_with(all.instructions, ended)?;
     let (turns, trace) = worker.finish();
-    push_both(&mut all.turns, &mut all.traces, turns, trace)
+    push_both(&mut all.turns, &mut all.traces, turns, trace)?;
+    all.instructions = count_with(all.instructions, ended)?;
+    Ok(())
 }
 
 /// What the workers leave, each of which was run, or [`Memory`] where one of them ended so.
@@ -116,11 +117,9 @@ pub(crate) fn gather<B: Bodies + Drop, G: Gate>(
     ensures instructions { IfOk result (λ all. all.instructions ≡ total (map count_in tasks.entry.items)) }
     ensures well { IfOk result (λ _. Each HasEndedWell tasks.entry.items) }
 {
-    let turns = Vec::with_capacity(alloc, tasks.len())?;
-    let traces = Vec::with_capacity(alloc, tasks.len())?;
     let mut all = Gathered {
-        turns,
-        traces,
+        turns: Vec::new(alloc),
+        traces: Vec::new(alloc),
         instructions: 0,
     };
     for task in tasks {

@@ -1,7 +1,8 @@
 // The turns of all actors at the three sets of locks.
-ghost use Rattle.std.specs.Prelude.{◌≡◌, map, length, IfOk};
+ghost use Rattle.std.specs.Prelude.{◌≡◌, [], ◌∷◌, ◌++◌, map, length, IfOk, OnOk};
 ghost use Rattle.thread_actors.specs.Turns.{at_maps, at_tables, at_sides};
 
+use crate::tasks::push_both;
 use bt_core::memory::Memory;
 use cpu_worker::world::WorkerTurns;
 use side_locks::turns::SideTurns;
@@ -21,7 +22,7 @@ pub fn joined(
     ensures tables { IfOk result (λ all. map at_tables all.items ≡ tables.items) }
     ensures sides { IfOk result (λ all. map at_sides all.items ≡ sides.items) }
 {
-    let mut all = Vec::with_capacity(alloc, maps.len())?;
+    let mut all = Vec::new(alloc);
     for ((maps, tables), sides) in maps.into_iter().zip(tables).zip(sides) {
         all.push(WorkerTurns {
             maps,
@@ -30,6 +31,42 @@ pub fn joined(
         })?;
     }
     Ok(all)
+}
+
+/// Puts one value behind each of three lists.
+fn push_each<A: Drop, B: Drop, C: Drop>(
+    firsts: &mut Vec<A>,
+    seconds: &mut Vec<B>,
+    thirds: &mut Vec<C>,
+    first: A,
+    second: B,
+    third: C,
+) -> Result<(), Memory>
+    ensures firsts { OnOk result (firsts.new.items ≡ firsts.old.items ++ first ∷ []) }
+    ensures seconds { OnOk result (seconds.new.items ≡ seconds.old.items ++ second ∷ []) }
+    ensures thirds { OnOk result (thirds.new.items ≡ thirds.old.items ++ third ∷ []) }
+{
+    firsts.push(first)?;
+    push_both(seconds, thirds, second, third)
+}
+
+/// Puts the turns of one more actor at each set behind those that there are.
+fn add_each(
+    turns: WorkerTurns,
+    at_maps: &mut Vec<Turns>,
+    at_tables: &mut Vec<Turns>,
+    at_sides: &mut Vec<SideTurns>,
+) -> Result<(), Memory>
+    ensures maps { OnOk result (at_maps.new.items ≡ at_maps.old.items ++ turns.maps ∷ []) }
+    ensures tables { OnOk result (at_tables.new.items ≡ at_tables.old.items ++ turns.tables ∷ []) }
+    ensures sides { OnOk result (at_sides.new.items ≡ at_sides.old.items ++ turns.sides ∷ []) }
+{
+    let WorkerTurns {
+        maps,
+        tables,
+        sides,
+    } = turns;
+    push_each(at_maps, at_tables, at_sides, maps, tables, sides)
 }
 
 /// The turns of each actor, once for each set.
@@ -41,18 +78,11 @@ pub fn parted(
     ensures tables { IfOk result (λ r. r.1.items ≡ map at_tables all.items) }
     ensures sides { IfOk result (λ r. r.2.items ≡ map at_sides all.items) }
 {
-    let mut at_maps = Vec::with_capacity(alloc, all.len())?;
-    let mut at_tables = Vec::with_capacity(alloc, all.len())?;
-    let mut at_sides = Vec::with_capacity(alloc, all.len())?;
+    let mut at_maps = Vec::new(alloc);
+    let mut at_tables = Vec::new(alloc);
+    let mut at_sides = Vec::new(alloc);
     for turns in all {
-        let WorkerTurns {
-            maps,
-            tables,
-            sides,
-        } = turns;
-        at_maps.push(maps)?;
-        at_tables.push(tables)?;
-        at_sides.push(sides)?;
+        add_each(turns, &mut at_maps, &mut at_tables, &mut at_sides)?;
     }
     Ok((at_maps, at_tables, at_sides))
 }

@@ -14,8 +14,8 @@ end-requires-clause-plan g c = subst (λ a. IsPlanIn c.args.world.now a (g.B.Bod
 pub returns : goal.returns
 returns g c = record {
   raised = record { bodies = c.args.main.bodies; turns = c.args.main.turns; trace = c.raise.new.self };
-  finished = c.end.new.main;
-  end_count = c.in_ok-finished.finished;
+  finished = c.in_ok-main.main;
+  end_count = c.in_ok-main.finished;
   is_raised = record {
     actor = c.raise.ensures.actor;
     clock = c.raise.ensures.clock ∙ ap (max (clock_of c.args.main.trace)) (c.latest_clock.ensures ∙ ap latest c.as_slice.ensures.value);
@@ -23,6 +23,6 @@ returns g c = record {
     turns = refl;
     bodies = refl;
   };
-  ended = c.in_ok-finished.ensures;
+  ended = c.in_ok-main.ensures;
   with_main = c.in_ok-add_main.ensures;
 }

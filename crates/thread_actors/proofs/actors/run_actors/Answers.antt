@@ -41,12 +41,12 @@ run_cpus-requires-clause-unused g c lifetimes bounds = let w = c.args.world.now 
 
 -- the turns and the plan after BEGIN are those before
 pub end_all-requires-clause-turns : goal.end_all-requires-clause-turns
-end_all-requires-clause-turns g c = subst (λ a. AreTurnsOf (sets_in c.args.world.now) a c.begin.new.main.turns) (sym c.in_ok-begun.ensures.actor) c.in_ok-begun.ensures.turns_are
+end_all-requires-clause-turns g c = subst (λ a. AreTurnsOf (sets_in c.args.world.now) a c.in_ok-main.main.turns) (sym c.in_ok-main.ensures.actor) c.in_ok-main.ensures.turns_are
 
 pub end_all-requires-clause-plan : goal.end_all-requires-clause-plan
 end_all-requires-clause-plan g c =
     let P = g.B.Bodies.plan in let w = c.args.world.now in let taken = c.main_actor-main.ensures in
-    subst (λ (z : ℕ × Plan). IsPlanIn w z.0 z.1) (λ i. (sym (c.in_ok-begun.ensures.actor ∙ taken.trace.actor_is) i, sym c.in_ok-begun.ensures.plan_kept i))
+    subst (λ (z : ℕ × Plan). IsPlanIn w z.0 z.1) (λ i. (sym (c.in_ok-main.ensures.actor ∙ taken.trace.actor_is) i, sym c.in_ok-main.ensures.plan_kept i))
     (main_plan P w c.args.bodies.items c.main_actor-main.result.bodies c.requires.actors taken.last_bodies c.requires.plans)
 
 pub returns : goal.returns
@@ -55,12 +55,12 @@ returns g c = if_ok_so _ _ c.end_all.result (λ left ended plans have.
     let main = c.main_actor-main.result in let taken = c.main_actor-main.ensures in
     let told = cpu_told P w c.args.bodies.items main.bodies c.requires.actors taken.last_bodies plans have in
     let gone = c.in_ok-all.ensures plans (subst (HavePlans P n plans) (sym taken.bodies) told) in
-    all_done P w plans main c.begin.new.main ended.raised ended.finished c.in_ok-all.all c.in_ok-begun.begun ended.end_count
+    all_done P w plans main c.in_ok-main.main ended.raised ended.finished c.in_ok-all.all c.in_ok-main.begun ended.end_count
     (record {
       first = taken.trace;
       unused = main_unused (sets_in w) n c.args.turns.items main.turns c.requires.many taken.last_turns c.requires.unused;
       begin_plan = main_told P w c.args.bodies.items main.bodies c.requires.actors taken.last_bodies plans have;
-      began = c.in_ok-begun.ensures;
+      began = c.in_ok-main.ensures;
       gone = subst (λ k. HaveGone (replay_in w plans) w k c.in_ok-all.all) c.clock-clock.ensures gone;
       is_raised = ended.is_raised;
       ended = ended.ended;

@@ -1,4 +1,4 @@
-use Rattle.std.proofs.Common.{◌≡◌, map, sum}
+use Rattle.std.proofs.Common.{◌≡◌, ◌++◌, map, sum}
 use Rattle.std.specs.Vec.Iter.{into_iter_items}
 use Rattle.turn_lock.specs.History.{Each}
 use Rattle.thread_actors.specs.Tasks.{turns_in, trace_in, count_in, HasEnded, HasEndedWell}
@@ -10,5 +10,6 @@ invariant-loop-task g l = record {
   traces : l.all.traces.items ≡ map trace_in l.yielded;
   instructions : l.all.instructions ≡ sum (map count_in l.yielded);
   well : Each HasEndedWell l.yielded;
+  whole : l.yielded ++ into_iter_items l.task-iterator ≡ l.fn.tasks.items;
   left : Each HasEnded (into_iter_items l.task-iterator);
 }

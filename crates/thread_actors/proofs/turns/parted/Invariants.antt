@@ -1,4 +1,5 @@
-use Rattle.std.proofs.Common.{◌≡◌, map}
+use Rattle.std.proofs.Common.{◌≡◌, ◌++◌, map}
+use Rattle.std.specs.Vec.Iter.{into_iter_items}
 use Rattle.thread_actors.specs.Turns.{at_maps, at_tables, at_sides}
 use Rattle.thread_actors.proofs.turns.parted.Given as goal
 
@@ -7,4 +8,5 @@ invariant-loop-turns l = record {
   maps : l.at_maps.items ≡ map at_maps l.yielded;
   tables : l.at_tables.items ≡ map at_tables l.yielded;
   sides : l.at_sides.items ≡ map at_sides l.yielded;
+  whole : l.yielded ++ into_iter_items l.turns-iterator ≡ l.fn.all.items;
 }
