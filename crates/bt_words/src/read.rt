@@ -188,7 +188,8 @@ fn text<'w>(matches: &ArgMatches<'w>, name: &str) -> &'w str
     matches.get_str(name).unwrap()
 }
 
-/// What clap reads in words that the command takes, where there was memory for the command: it fails only for want of memory.
+/// What clap reads in words that the command takes, where there was memory for the command: it fails only
+/// for want of memory.
 fn parsed<'w>(
     command: Result<Command<'w>, AllocError>,
     words: &'w [String],
