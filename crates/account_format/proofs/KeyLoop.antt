@@ -1,5 +1,5 @@
 -- The values of a key that were read so far, and one more.
-use Rattle.std.proofs.Common.{◌≡◌, ℕ, suc, ◌+◌, ◌<◌, ◌≤◌, Bool, List, [], ◌∷◌, ◌++◌, length, drop, get_or, cond, Option, Some, None, refl, sym, ap, ◌∙◌, append_assoc, append-nil, add-one, arith}
+use Rattle.std.proofs.Common.{◌≡◌, ℕ, zero, suc, ◌+◌, ◌<◌, ◌≤◌, Bool, List, [], ◌∷◌, ◌++◌, length, drop, get_or, cond, Option, Some, None, refl, sym, ap, ◌∙◌, append_assoc, append-nil, add-one, arith}
 use Rattle.std.proofs.Math.Seq.{drop-cons}
 use Rattle.std.proofs.lemmas.Bool.{le-leb}
 use Rattle.std.proofs.lemmas.List.{drop_all}
@@ -29,6 +29,17 @@ pub record SoFar (shapes : List Shape) (bytes : List ℕ) (place : ℕ) (values 
 
 pub so_far_none : (shapes : List Shape) (bytes : List ℕ) → SoFar shapes bytes 0 [] bytes
 so_far_none shapes bytes = record { read = rejoined_none (values_at shapes bytes); count = refl }
+
+-- of a shape that is there it is no matter what is said for one that is not
+pub any_default : (hs : List Shape) (n : ℕ) (d : Shape) → n < length hs → get_or hs n d ≡ get_or hs n (get_or hs n d)
+any_default [] n d h = absurd (omega (arith, h))
+any_default (x ∷ xs) zero d h = refl
+any_default (x ∷ xs) (suc n) d h = told xs n d (get_or xs n d) (omega (arith, h))
+  where
+    told : (hs : List Shape) (n : ℕ) (d e : Shape) → n < length hs → get_or hs n d ≡ get_or hs n e
+    told [] n d e h = absurd (omega (arith, h))
+    told (x ∷ xs) zero d e h = refl
+    told (x ∷ xs) (suc n) d e h = told xs n d e (omega (arith, h))
 
 left_is : (shapes : List Shape) (place : ℕ) (h : Shape) → place < length shapes → h ≡ get_or shapes place h → drop place shapes ≡ h ∷ drop (place + 1) shapes
 left_is shapes place h lt is = rw add-one (drop-cons shapes place h lt ∙ ap (λ (x : Shape). x ∷ drop (suc place) shapes) (sym is))

@@ -60,7 +60,9 @@ fn set_at<'b>(alloc: Global, maps: &[MapDecl], bytes: &'b [u8]) -> Result<Asked<
 fn sweep_at<'b>(maps: &[MapDecl], op: Op, bytes: &'b [u8]) -> Asked<'b>
     ensures { option_map (λ call. (call.0, call.1.now)) result ≡ sweep_at maps.now op bytes.now }
 {
-    let ((map, part), rest) = part_at(maps, bytes)?;
+    let Some(((map, part), rest)) = part_at(maps, bytes) else {
+        return None;
+    };
     Some(((ObjectId::Shared { map, part }, op), rest))
 }
 
@@ -95,7 +97,9 @@ fn add_at<'b>(
 fn read_at<'b>(maps: &[MapDecl], actors: u32, bytes: &'b [u8]) -> Asked<'b>
     ensures { option_map (λ call. (call.0, call.1.now)) result ≡ read_at maps.now actors bytes.now }
 {
-    let ((map, table), rest) = table_at(maps, actors, bytes)?;
+    let Some(((map, table), rest)) = table_at(maps, actors, bytes) else {
+        return None;
+    };
     Some(((ObjectId::Cpu(table), Op::Read(map)), rest))
 }
 
@@ -103,7 +107,9 @@ fn read_at<'b>(maps: &[MapDecl], actors: u32, bytes: &'b [u8]) -> Asked<'b>
 fn clear_of_at<'b>(maps: &[MapDecl], actors: u32, bytes: &'b [u8]) -> Asked<'b>
     ensures { option_map (λ call. (call.0, call.1.now)) result ≡ clear_of_at maps.now actors bytes.now }
 {
-    let ((map, table), rest) = table_at(maps, actors, bytes)?;
+    let Some(((map, table), rest)) = table_at(maps, actors, bytes) else {
+        return None;
+    };
     Some(((ObjectId::Cpu(table), Op::ClearOf(map)), rest))
 }
 
@@ -111,7 +117,9 @@ fn clear_of_at<'b>(maps: &[MapDecl], actors: u32, bytes: &'b [u8]) -> Asked<'b>
 fn zero_of_at<'b>(maps: &[MapDecl], actors: u32, bytes: &'b [u8]) -> Asked<'b>
     ensures { option_map (λ call. (call.0, call.1.now)) result ≡ zero_of_at maps.now actors bytes.now }
 {
-    let ((map, table), rest) = table_at(maps, actors, bytes)?;
+    let Some(((map, table), rest)) = table_at(maps, actors, bytes) else {
+        return None;
+    };
     Some(((ObjectId::Cpu(table), Op::ZeroOf(map)), rest))
 }
 
@@ -119,7 +127,9 @@ fn zero_of_at<'b>(maps: &[MapDecl], actors: u32, bytes: &'b [u8]) -> Asked<'b>
 fn cross_at<'b>(ticks: u32, bytes: &'b [u8]) -> Asked<'b>
     ensures { option_map (λ call. (call.0, call.1.now)) result ≡ cross_at ticks bytes.now }
 {
-    let (tick, rest) = u32_at(bytes)?;
+    let Some((tick, rest)) = u32_at(bytes) else {
+        return None;
+    };
     if tick < ticks {
         Some(((ObjectId::Clock, Op::Cross(tick)), rest))
     } else {

@@ -17,9 +17,15 @@ use std::alloc::Global;
 fn head_at(actors: u32, bytes: &[u8]) -> Option<((u32, (u64, Kind)), &[u8])>
     ensures { option_map (λ head. (head.0, head.1.now)) result ≡ head_at actors bytes.now }
 {
-    let (actor, bytes) = u32_at(bytes)?;
-    let (stamp, bytes) = u64_at(bytes)?;
-    let (kind, rest) = kind_at(bytes)?;
+    let Some((actor, bytes)) = u32_at(bytes) else {
+        return None;
+    };
+    let Some((stamp, bytes)) = u64_at(bytes) else {
+        return None;
+    };
+    let Some((kind, rest)) = kind_at(bytes) else {
+        return None;
+    };
     if actor < actors {
         Some(((actor, (stamp, kind)), rest))
     } else {

@@ -52,6 +52,8 @@ pub(crate) fn kind_at(bytes: &[u8]) -> Option<(Kind, &[u8])>
     if bytes.is_empty() {
         return None;
     }
-    let kind = kind_of(bytes[0])?;
+    let Some(kind) = kind_of(bytes[0]) else {
+        return None;
+    };
     Some((kind, &bytes[1..]))
 }

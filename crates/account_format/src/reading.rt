@@ -92,7 +92,9 @@ fn read<'a>(alloc: Global, scope: &Scope<'a>, bytes: &'a [u8]) -> Result<Account
 fn magic_at(bytes: &[u8]) -> Option<&[u8]>
     ensures { option_map (λ rest. rest.now) result ≡ magic_at bytes.now }
 {
-    let (front, rest) = bytes_at(bytes, 8)?;
+    let Some((front, rest)) = bytes_at(bytes, 8) else {
+        return None;
+    };
     if front == MAGIC { Some(rest) } else { None }
 }
 

@@ -37,8 +37,12 @@ fn is_aggregation(kind: MapKind) -> bool
 fn map_at<'m, 'b>(maps: &'m [MapDecl], bytes: &'b [u8]) -> Option<((MapId, &'m MapDecl), &'b [u8])>
     ensures { option_map (λ map. ((map.0.0, map.0.1.now), map.1.now)) result ≡ map_at maps.now bytes.now }
 {
-    let (number, rest) = u32_at(bytes)?;
-    let decl = maps.get(number as usize)?;
+    let Some((number, rest)) = u32_at(bytes) else {
+        return None;
+    };
+    let Some(decl) = maps.get(number as usize) else {
+        return None;
+    };
     Some(((MapId(number), decl), rest))
 }
 
@@ -50,8 +54,12 @@ fn shared_map_at<'m, 'b>(
 ) -> Option<((MapId, (&'m MapDecl, Shape)), &'b [u8])>
     ensures { option_map (λ map. ((map.0.0, (map.0.1.0.now, map.0.1.1)), map.1.now)) result ≡ shared_map_at maps.now bytes.now }
 {
-    let ((map, decl), rest) = map_at(maps, bytes)?;
-    let shape = held_shape(decl.kind)?;
+    let Some(((map, decl), rest)) = map_at(maps, bytes) else {
+        return None;
+    };
+    let Some(shape) = held_shape(decl.kind) else {
+        return None;
+    };
     Some(((map, (decl, shape)), rest))
 }
 
@@ -63,7 +71,9 @@ pub(crate) fn table_map_at<'m, 'b>(
 ) -> Option<((MapId, &'m MapDecl), &'b [u8])>
     ensures { option_map (λ map. ((map.0.0, map.0.1.now), map.1.now)) result ≡ table_map_at maps.now bytes.now }
 {
-    let ((map, decl), rest) = map_at(maps, bytes)?;
+    let Some(((map, decl), rest)) = map_at(maps, bytes) else {
+        return None;
+    };
     if is_aggregation(decl.kind) {
         Some(((map, decl), rest))
     } else {
@@ -76,8 +86,12 @@ pub(crate) fn table_map_at<'m, 'b>(
 pub(crate) fn part_at<'b>(maps: &[MapDecl], bytes: &'b [u8]) -> Option<((MapId, u32), &'b [u8])>
     ensures { option_map (λ found. (found.0, found.1.now)) result ≡ part_at maps.now bytes.now }
 {
-    let ((map, _), rest) = shared_map_at(maps, bytes)?;
-    let (part, rest) = u32_at(rest)?;
+    let Some(((map, _), rest)) = shared_map_at(maps, bytes) else {
+        return None;
+    };
+    let Some((part, rest)) = u32_at(rest) else {
+        return None;
+    };
     if part < PARTS {
         Some(((map, part), rest))
     } else {
@@ -94,8 +108,12 @@ pub(crate) fn table_at<'b>(
 ) -> Option<((MapId, u32), &'b [u8])>
     ensures { option_map (λ found. (found.0, found.1.now)) result ≡ table_at maps.now actors bytes.now }
 {
-    let ((map, _), rest) = table_map_at(maps, bytes)?;
-    let (table, rest) = u32_at(rest)?;
+    let Some(((map, _), rest)) = table_map_at(maps, bytes) else {
+        return None;
+    };
+    let Some((table, rest)) = u32_at(rest) else {
+        return None;
+    };
     if table < actors {
         Some(((map, table), rest))
     } else {

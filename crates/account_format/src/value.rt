@@ -31,7 +31,9 @@ pub(crate) fn text_bytes(text: &Str64) -> [u8; TEXT_BYTES]
 fn text_at(bytes: &[u8]) -> Option<(Str64, &[u8])>
     ensures { option_map (λ text. (text.0, text.1.now)) result ≡ text_at bytes.now }
 {
-    let (front, rest) = bytes_at(bytes, TEXT_BYTES)?;
+    let Some((front, rest)) = bytes_at(bytes, TEXT_BYTES) else {
+        return None;
+    };
     let text = Str64::of(front);
     let spelled = text_bytes(&text);
     if spelled.as_slice() == front {
@@ -47,11 +49,15 @@ pub(crate) fn value_at(shape: Shape, bytes: &[u8]) -> Option<(Value, &[u8])>
 {
     match shape {
         Shape::Int => {
-            let (number, rest) = u64_at(bytes)?;
+            let Some((number, rest)) = u64_at(bytes) else {
+                return None;
+            };
             Some((Value::Int(number.cast_signed()), rest))
         }
         Shape::Str => {
-            let (text, rest) = text_at(bytes)?;
+            let Some((text, rest)) = text_at(bytes) else {
+                return None;
+            };
             Some((Value::Str(text), rest))
         }
     }

@@ -2,10 +2,17 @@
 use Rattle.std.proofs.Common.{◌≡◌, ◌∙◌, Bool, List, true, false, codes, Option, Some, None, IsSome, is_some, option_map, ap, refl, sym, true≢false}
 use Rattle.std.specs.Borrow.{Bor}
 use Rattle.std.specs.Option.{unwrap_or}
-use Rattle.clap.specs.Words.{Row, Text, first_of, first_value, one_of, one_text, rows_of}
+use Rattle.std.specs.Prelude.{Result, Ok, Err, IfOk}
+use Rattle.clap.specs.Words.{App, Row, Text, first_of, first_value, one_of, one_text, rows_of, takes}
 use Rattle.bt_words.proofs.ClapEnd.{flag_text}
 use Rattle.clap.specs.declared.parser.matches.Found.{Found}
 use Rattle.clap.proofs.WalkLemmas.{first_value-rows, one_text-rows}
+
+-- a command that was made takes what its description takes
+pub taken : {C E : Type 0} (made : Result C E) (described : C → App) (app : App) (words : List Text) → takes app words ≡ true → IfOk made (λ c. described c ≡ app)
+    → IfOk made (λ c. takes (described c) words ≡ true)
+taken (Ok c) described app words there is = ap (λ (a : App). takes a words) is ∙ there
+taken (Err e) described app words there is = tt
 
 -- a text that clap read is there
 pub text_there : (f : Found) (id : Text) (o : Option (Bor Text)) → option_map (λ s. s.now) o ≡ first_value f id → IsSome (first_of id (rows_of f)) → IsSome o

@@ -1,5 +1,5 @@
 -- What the rule says of a command that takes two operands.
-use Rattle.std.proofs.Common.{◌≡◌, ◌∙◌, ◌==◌, ◌&&◌, ℕ, Bool, cond, true, false, not, List, [], ◌∷◌, Option, Some, None, IsSome, IfOk, Result, Ok, Err, String, Global, drop, map, string_bytes, suc, ap, codes, filter, is_some, length, refl, sym, true≢false, arith, Decides}
+use Rattle.std.proofs.Common.{◌≡◌, ◌∙◌, ◌==◌, ◌&&◌, ℕ, Bool, cond, true, false, not, List, [], ◌∷◌, Option, Some, None, IsSome, IfOk, Result, Ok, Err, String, Global, drop, map, string_bytes, suc, ap, codes, filter, is_some, length, refl, sym, true≢false, arith, Decides, ◌+◌, ◌<◌, take, take_all}
 use Rattle.std.specs.List.{list_all, list_any, slice_index_or}
 use Rattle.std.specs.Str.{bytes_eq}
 use Rattle.std.proofs.lemmas.Bool.Decides.{nat_tests}
@@ -202,3 +202,29 @@ pub usage_alone : (there : Option Order) (r : Result Order WordsError) → IsAns
 usage_alone there (Ok order) h = (λ e. cc, λ none. absurd (some_none order (sym h ∙ none)))
 usage_alone there (Err Usage) h = (λ e. h, λ none. refl)
 usage_alone there (Err Memory) h = (λ e. cc, λ none. absurd (nothing there none h))
+
+-- ---- the words behind the command
+
+pub no_words : (words : List (String Global)) → length words < 1 → false ≡ is_some (order_of words)
+no_words [] h = refl
+no_words (w ∷ ws) h = absurd (omega arith)
+
+-- none of them is empty, so it is for the command to say whether they fit
+pub admitted_words : (words : List (String Global)) (n : ℕ) (command : String Global) (text : List ℕ) (fits : Bool) → n + 1 ≡ length words → command ≡ slice_index_or words 0 command
+    → text ≡ string_bytes command → false ≡ list_any is_empty (map string_bytes (take n (drop 1 words))) → fits ≡ is_some (order_by text (map string_bytes (take n (drop 1 words))))
+    → fits ≡ is_some (order_of words)
+admitted_words [] n command text fits h is reads some suits = absurd (omega (arith, h))
+admitted_words (w ∷ ws) n command text fits h is reads some suits =
+    let whole : take n ws ≡ ws = take_all n ws (omega (arith, h)) in
+    suits
+    ∙ (λ i. is_some (order_by ((reads ∙ ap string_bytes is) i) (map string_bytes (whole i))))
+    ∙ ap (λ (b : Bool). is_some (cond b None (order_by (string_bytes w) (map string_bytes ws)))) (some ∙ ap (λ l. list_any is_empty (map string_bytes l)) whole)
+
+-- one of them is empty
+pub refused_words : (words : List (String Global)) (n : ℕ) (has : Bool) → n + 1 ≡ length words → has ≡ list_any is_empty (map string_bytes (take n (drop 1 words))) → has ≡ true
+    → not has ≡ is_some (order_of words)
+refused_words [] n has h found there = absurd (omega (arith, h))
+refused_words (w ∷ ws) n has h found there =
+    ap not there
+    ∙ ap (λ (b : Bool). is_some (cond b None (order_by (string_bytes w) (map string_bytes ws))))
+    (sym there ∙ found ∙ ap (λ l. list_any is_empty (map string_bytes l)) (take_all n ws (omega (arith, h))))

@@ -1,6 +1,6 @@
 // Reading words: first the rule is tested, then clap reads the words that it admits.
 ghost use Rattle.std.specs.Prelude.{◌≡◌, ◌↔◌, ◌∷◌, [], IsSome, None, Some, Err, IfOk, IfErr, drop, map, true, string_bytes};
-ghost use Rattle.clap.specs.Words.{app_of, first_of, found_of, matches_of, rows_of, takes};
+ghost use Rattle.clap.specs.Words.{App, app_of, first_of, found_of, matches_of, rows_of, takes};
 ghost use Rattle.bt_words.specs.Commands.{AreTwoOperands, IsFileCommand, IsNumberCommand};
 ghost use Rattle.bt_words.specs.Words.{account_order, order_by, order_of, plain_order, run_order, verify_order, HasBounds, IsAnswer};
 
@@ -10,7 +10,7 @@ use crate::order::{FileName, Order, WordsError};
 use crate::rule::is_admitted;
 use bt_core::beside::beside;
 use clap::{ArgMatches, Command};
-use std::alloc::Global;
+use std::alloc::{AllocError, Global};
 
 /// What words ask for. The first is the command; behind it stand options and operands in any order,
 /// none of them empty. Options begin with `-`: `run` takes `--serial`, `--stats` and `--json`, each once, and
@@ -50,7 +50,9 @@ fn run_order(alloc: Global, words: &[String]) -> Result<Order, WordsError>
     requires { IsSome (run_order (drop 1 (map string_bytes words.now))) }
     ensures { IsAnswer (run_order (drop 1 (map string_bytes words.now))) result }
 {
-    let matches = parsed(run_command(alloc)?, words)?;
+    let Ok(matches) = parsed(run_command(alloc), words) else {
+        return Err(WordsError::Memory);
+    };
     let serial = matches.get_flag("serial");
     let stats = matches.get_flag("stats");
     let json = matches.get_flag("json");
@@ -72,7 +74,9 @@ fn account_order(alloc: Global, words: &[String]) -> Result<Order, WordsError>
     requires { IsSome (account_order (drop 1 (map string_bytes words.now))) }
     ensures { IsAnswer (account_order (drop 1 (map string_bytes words.now))) result }
 {
-    let matches = parsed(account_command(alloc)?, words)?;
+    let Ok(matches) = parsed(account_command(alloc), words) else {
+        return Err(WordsError::Memory);
+    };
     let serial = matches.get_flag("serial");
     let first = text(&matches, "script");
     let second = text(&matches, "recording");
@@ -90,7 +94,9 @@ fn verify_order(alloc: Global, words: &[String]) -> Result<Order, WordsError>
     requires { IsSome (verify_order (drop 1 (map string_bytes words.now))) }
     ensures { IsAnswer (verify_order (drop 1 (map string_bytes words.now))) result }
 {
-    let matches = parsed(verify_command(alloc)?, words)?;
+    let Ok(matches) = parsed(verify_command(alloc), words) else {
+        return Err(WordsError::Memory);
+    };
     let first = text(&matches, "script");
     let second = text(&matches, "recording");
     let third = text(&matches, "account");
@@ -165,7 +171,9 @@ fn two_operands<'w>(
     ensures found { IfOk result (λ two. drop 1 (map string_bytes words.now) ≡ two.first.now ∷ two.second.now ∷ []) }
     ensures memory { IfErr result (λ error. error ≡ WordsError.Memory) }
 {
-    let matches = parsed(two_command(alloc, command)?, words)?;
+    let Ok(matches) = parsed(two_command(alloc, command), words) else {
+        return Err(WordsError::Memory);
+    };
     let first = text(&matches, "first");
     let second = text(&matches, "second");
     drop(matches);
@@ -180,12 +188,20 @@ fn text<'w>(matches: &ArgMatches<'w>, name: &str) -> &'w str
     matches.get_str(name).unwrap()
 }
 
-/// What clap reads in words that the command takes: it fails only for want of memory.
-fn parsed<'w>(command: Command<'w>, words: &'w [String]) -> Result<ArgMatches<'w>, WordsError>
-    requires { takes (app_of command) (map string_bytes words.now) ≡ true }
-    ensures matches { IfOk result (λ m. rows_of (found_of m) ≡ matches_of (app_of command.entry) (map string_bytes words.entry.now)) }
+/// What clap reads in words that the command takes, where there was memory for the command: it fails only
+/// for want of memory.
+fn parsed<'w>(
+    command: Result<Command<'w>, AllocError>,
+    words: &'w [String],
+) -> Result<ArgMatches<'w>, WordsError>
+    requires { IfOk command (λ c. takes (app_of c) (map string_bytes words.now) ≡ true) }
+    ensures matches { (app : App) → IfOk command.entry (λ c. app_of c ≡ app)
+        → IfOk result (λ m. rows_of (found_of m) ≡ matches_of app (map string_bytes words.entry.now)) }
     ensures memory { IfErr result (λ error. error ≡ WordsError.Memory) }
 {
+    let Ok(command) = command else {
+        return Err(WordsError::Memory);
+    };
     match command.try_get_matches_from(words) {
         Ok(matches) => Ok(matches),
         Err(_) => Err(WordsError::Memory),

@@ -1,5 +1,6 @@
 pub mod BytesLemmas
 pub mod ForOthers
+pub mod HeadLemmas
 pub mod LayoutLaws
 pub mod LoopLemmas
 pub mod NameLaws

@@ -1,6 +1,6 @@
 -- One line after the other, as the reader goes.
 use Rattle.std.proofs.Common.{◌≡◌, ℕ, ◌+◌, ◌^◌, ◌≤◌, ◌<◌, Bool, true, false, cond, not, Option, Some, None, List, [], ◌∷◌, ◌++◌, length, drop, map, get_or, refl, ap, sym, subst, ◌∙◌, append_assoc, arith}
-use Rattle.std.specs.Prelude.{codes, ◌==◌}
+use Rattle.std.specs.Prelude.{codes, nat_lt, ◌==◌, if◌then◌else◌}
 use Rattle.std.specs.List.{slice_split, onto_first, cons_option}
 use Rattle.std.specs.Option.{option_or}
 use Rattle.std.proofs.lemmas.List.{append-nil, length-map, length-drop, length-append}
@@ -11,7 +11,7 @@ use Rattle.event_layout.specs.Bytes.{is_blank, is_line_end, without_end, without
 use Rattle.event_layout.specs.FieldLines.{Description}
 use Rattle.event_layout.specs.Lines.{text_lines}
 use Rattle.event_layout.specs.Reading.{◌>>=◌, name_on, field_on, word_in}
-use Rattle.event_layout.specs.Layouts.{is_print_line, read_lines, described, line_at, line_fault, lines_fault}
+use Rattle.event_layout.specs.Layouts.{is_print_line, read_lines, described, field_fault, line_at, line_fault, lines_fault}
 use Rattle.tracefs_format.specs.Tables.{Fails}
 use Rattle.tracefs_format.proofs.BytesLemmas.{after-parts, length-without_end}
 
@@ -34,6 +34,13 @@ pub line_empty : (number : ℕ) (table : List Description) (line : List ℕ) →
 unfolding field_on
 line_empty number table [] h = (refl, sym (append-nil table))
 line_empty number table (b ∷ bs) h = absurd cc
+
+-- what a line that is not empty has wrong, and what it describes
+pub line_read : (number : ℕ) (table : List Description) (line : List ℕ) (found : Option Description) → nat_lt 0 (length line) ≡ true → field_on line ≡ found → line_fault number table line ≡ field_fault number table found
+line_read number table line found some is = λ i. if some i then field_fault number table (is i) else None
+
+pub described_one : (line : List ℕ) (d : Description) → field_on line ≡ Some d → described (line ∷ []) ≡ d ∷ []
+described_one line d is = ap (λ o. cons_option o []) is
 
 -- the fault of a line that is read is the first of those that are left
 pub line_fails : (e : FormatError) (number : ℕ) (table : List Description) (line : List ℕ) (lines rest : List (List ℕ)) (whole : Option FormatError) → lines ≡ line ∷ rest → is_print_line line ≡ false

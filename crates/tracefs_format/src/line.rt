@@ -92,24 +92,39 @@ pub fn field_on(line: &[u8]) -> Option<FieldLine<'_>>
     ensures field { Finds described_by result (field_on line.now) }
     ensures sized { IfSome result (λ f. IsTrue (fits_kind f.kind f.size)) }
 {
-    let (part, rest) = cut_at(line, b';')?;
-    let declaration = labelled(part, b"field:")?;
-    let (part, rest) = cut_at(rest, b';')?;
-    let offset = number_after(part, b"offset:")?;
-    let (part, rest) = cut_at(rest, b';')?;
-    let size = number_after(part, b"size:")?;
-    let (part, rest) = cut_at(rest, b';')?;
-    let signed = flag_after(part, b"signed:")?;
+    let Some((part, rest)) = cut_at(line, b';') else {
+        return None;
+    };
+    let Some(declaration) = labelled(part, b"field:") else {
+        return None;
+    };
+    let Some((part, rest)) = cut_at(rest, b';') else {
+        return None;
+    };
+    let Some(offset) = number_after(part, b"offset:") else {
+        return None;
+    };
+    let Some((part, rest)) = cut_at(rest, b';') else {
+        return None;
+    };
+    let Some(size) = number_after(part, b"size:") else {
+        return None;
+    };
+    let Some((part, rest)) = cut_at(rest, b';') else {
+        return None;
+    };
+    let Some(signed) = flag_after(part, b"signed:") else {
+        return None;
+    };
     if !rest.is_empty() {
         return None;
     }
     let declared = declaration_parts(declaration);
-    let kind = kind_of(declared.type_, declared.is_array, size);
     Some(FieldLine {
         name: declared.name,
         offset,
         size,
         signed,
-        kind,
+        kind: kind_of(declared.type_, declared.is_array, size),
     })
 }

@@ -1,8 +1,8 @@
-use Rattle.std.proofs.Common.{◌∙◌, ap, codes, drop, map, string_bytes}
-use Rattle.clap.specs.Words.{App, found_of, matches_of, rows_of, takes}
+use Rattle.std.proofs.Common.{◌∙◌, codes, drop, map, string_bytes}
+use Rattle.clap.specs.Words.{app_of, found_of, matches_of, rows_of}
 use Rattle.bt_words.specs.Commands.{account_app}
 use Rattle.bt_words.proofs.ClapAccount.{account_is, is_account, reads_account}
-use Rattle.bt_words.proofs.ClapGets.{first_there, flag_is, text_is}
+use Rattle.bt_words.proofs.ClapGets.{first_there, taken, flag_is, text_is}
 use Rattle.bt_words.proofs.read.account_order.Goals as goal
 
 pub parsed-requires : goal.parsed-requires
@@ -10,31 +10,31 @@ parsed-requires c =
     let words = map string_bytes c.args.words.now in
     let is = is_account (drop 1 words) c.requires in
     let read = reads_account words is in
-    ap (λ (a : App). takes a words) c.in_ok-account_command.ensures ∙ read.takes_them
+    taken c.account_command.result app_of account_app words read.takes_them c.account_command.ensures
 
 pub text-first-requires : goal.text-first-requires
 text-first-requires c =
     let words = map string_bytes c.args.words.now in
     let is = is_account (drop 1 words) c.requires in
     let read = reads_account words is in
-    let rows = c.in_ok-matches.ensures.matches ∙ ap (λ (a : App). matches_of a words) c.in_ok-account_command.ensures in
-    first_there (codes "script") _ (rows_of (found_of c.in_ok-matches.matches)) (matches_of account_app words) rows read.script_text
+    let rows = c.in-Ok.ensures.matches account_app c.account_command.ensures in
+    first_there (codes "script") _ (rows_of (found_of c.in-Ok.matches)) (matches_of account_app words) rows read.script_text
 
 pub text-second-requires : goal.text-second-requires
 text-second-requires c =
     let words = map string_bytes c.args.words.now in
     let is = is_account (drop 1 words) c.requires in
     let read = reads_account words is in
-    let rows = c.in_ok-matches.ensures.matches ∙ ap (λ (a : App). matches_of a words) c.in_ok-account_command.ensures in
-    first_there (codes "recording") _ (rows_of (found_of c.in_ok-matches.matches)) (matches_of account_app words) rows read.recording_text
+    let rows = c.in-Ok.ensures.matches account_app c.account_command.ensures in
+    first_there (codes "recording") _ (rows_of (found_of c.in-Ok.matches)) (matches_of account_app words) rows read.recording_text
 
 pub returns : goal.returns
 returns c =
     let words = map string_bytes c.args.words.now in
     let is = is_account (drop 1 words) c.requires in
     let read = reads_account words is in
-    let found = found_of c.in_ok-matches.matches in
-    let rows = c.in_ok-matches.ensures.matches ∙ ap (λ (a : App). matches_of a words) c.in_ok-account_command.ensures in
+    let found = found_of c.in-Ok.matches in
+    let rows = c.in-Ok.ensures.matches account_app c.account_command.ensures in
     let script = text_is (codes "script") c.text-first.result.now _ (rows_of found) (matches_of account_app words) rows read.script_text c.text-first.ensures in
     let recording = text_is (codes "recording") c.text-second.result.now _ (rows_of found) (matches_of account_app words) rows read.recording_text c.text-second.ensures in
     let serial = flag_is found (codes "serial") _ _ c.get_flag-serial.result rows read.serial_text c.get_flag-serial.ensures.value c.get_flag-serial.ensures.other in
