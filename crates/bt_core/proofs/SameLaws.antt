@@ -1,5 +1,5 @@
 -- Laws of computations that do the same under the replies that can come.
-use Rattle.std.proofs.Common.{◌≡◌, refl, sym}
+use Rattle.std.proofs.Common.{refl}
 use Rattle.bt_core.specs.declared.step.Reply.{Reply}
 use Rattle.bt_core.specs.Interaction.{Interaction, Ended, Asks, Call, and_then}
 use Rattle.bt_core.specs.Same.{SameTo, Yields}
