@@ -6,7 +6,6 @@ use Rattle.std.proofs.lemmas.Bool.{ltb-true, lt-ltb}
 use Rattle.std.proofs.lemmas.Int.{to_z-of_z, of_z-to_z}
 use Rattle.std.proofs.lemmas.Option.{same_Some}
 use Rattle.bt_core.specs.declared.item.Item.TheVariants.{Cut}
-use Rattle.bt_core.specs.declared.limits.TheConstants.{PARTS}
 use Rattle.bt_core.specs.declared.map.MapDecl.{MapDecl}
 use Rattle.bt_core.specs.declared.map.MapId.{MapId}
 use Rattle.bt_core.specs.declared.map.Shape.{Shape}
@@ -18,6 +17,8 @@ use Rattle.bt_core.specs.declared.value.Value.{Value}
 use Rattle.bt_core.specs.Kinds.{IsShared, IsAggregation, HasShape}
 use Rattle.bt_core.specs.KeyBytes.{value_bytes, key_bytes, part_of}
 use Rattle.bt_core.specs.Ports.{Setting, CanStep, Serves, IsSharedOp, IsTableOp}
+use Rattle.map_ops.specs.Parts.{IsPartNumber}
+use Rattle.map_ops.proofs.PartLaws.{part_below}
 use Rattle.recordings.specs.Fronts.{◌>>=◌, where_true, number_at}
 use Rattle.recordings.proofs.Fields.{IsBytes, bind_some, where_true_some, Takes, Takes-then, wide32, wide64, number_takes, number_again}
 use Rattle.recordings.proofs.PartLaws.{bind_to}
@@ -29,9 +30,6 @@ use Rattle.account_format.specs.declared.kind.Kind.TheVariants as kinds
 use Rattle.account_format.proofs.ValueLaws.{bits-small, signed_fits, value_takes, value_again, key_takes, key_again}
 use Rattle.account_format.proofs.KindLaws.{kind_byte}
 use Rattle.account_format.proofs.SpotLaws.{some_and, and_some, held_shared, shared_held, shaped_kind, kind_shaped, Named, keyed_takes, keyed_again, part_takes, part_again, table_takes, table_again, table_map_takes, table_map_again}
-
-part_below : (key : List Value) → part_of key < PARTS
-part_below key = omega arith
 
 -- a map that is there serves what holds of its declaration
 serves : (maps : List MapDecl) (m : MapId) (decl : MapDecl) (P : MapDecl → Type 0) → Named maps m decl → P decl → Serves maps m P
@@ -262,7 +260,7 @@ module _ (setting : Setting) (actor : ℕ) where
       (bind_to (value_at h.0 (value_bytes value ++ rest)) _ (value, rest) _ (value_again h.0 value rest (kind_shaped s.0.kind h.0 value h.1 s.2.1.1) fits.1)
       (ap (λ (p : ℕ). Some ((Shared m p, ops.Set key value), rest)) (sym home)))
 
-  sweep_again : (m : MapId) (part : ℕ) (op : Op) (rest : List ℕ) → m.0 < 2 ^ 32 → part < PARTS → Serves setting.maps m (λ decl. IsShared decl.kind × IsSharedOp decl op)
+  sweep_again : (m : MapId) (part : ℕ) (op : Op) (rest : List ℕ) → m.0 < 2 ^ 32 → IsPartNumber part → Serves setting.maps m (λ decl. IsShared decl.kind × IsSharedOp decl op)
       → sweep_at setting.maps op ((to_le_bytes w32 m.0 ++ to_le_bytes w32 part) ++ rest) ≡ Some ((Shared m part, op), rest)
   unfolding sweep_at
   sweep_again m part op rest few below own =

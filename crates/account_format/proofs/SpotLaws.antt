@@ -4,7 +4,6 @@ use Rattle.std.specs.Prelude.{nat_lt, slice_get, IsSomeAnd}
 use Rattle.std.specs.Int.{to_le_bytes}
 use Rattle.std.proofs.lemmas.Bool.{ltb-true, lt-ltb}
 use Rattle.std.proofs.lemmas.Option.{same_Some}
-use Rattle.bt_core.specs.declared.limits.TheConstants.{PARTS}
 use Rattle.bt_core.specs.declared.map.MapDecl.{MapDecl}
 use Rattle.bt_core.specs.declared.map.MapId.{MapId}
 use Rattle.bt_core.specs.declared.map.MapKind.{MapKind}
@@ -15,6 +14,8 @@ use Rattle.bt_core.specs.declared.value.Value.{Value}
 use Rattle.bt_core.specs.declared.value.Value.TheVariants.{Int, Str}
 use Rattle.bt_core.specs.Kinds.{IsOfShape, IsOfKind, IsShared, IsAggregation, HasShape}
 use Rattle.bt_core.specs.KeyBytes.{key_bytes}
+use Rattle.map_ops.specs.Parts.{IsPartNumber, is_part_number}
+use Rattle.map_ops.proofs.PartLaws.{part_number_told, part_number_tells}
 use Rattle.recordings.specs.Fronts.{where_true, number_at}
 use Rattle.recordings.proofs.Fields.{IsBytes, bind_some, where_true_some, Takes, Takes-then, wide32, number_takes, number_again}
 use Rattle.recordings.proofs.PartLaws.{bind_to}
@@ -177,14 +178,14 @@ pub record PartTook (maps : List MapDecl) (bytes : List ℕ) (m : MapId) (part :
   pub named : Named maps m decl
   pub shared : IsShared decl.kind
   pub took : Takes bytes (to_le_bytes w32 m.0 ++ to_le_bytes w32 part) rest
-  pub below : part < PARTS
+  pub below : IsPartNumber part
 
 pub part_takes : (maps : List MapDecl) (bytes : List ℕ) (m : MapId) (part : ℕ) (rest : List ℕ) → IsBytes bytes → part_at maps bytes ≡ Some ((m, part), rest) → PartTook maps bytes m part rest
 unfolding part_at
 part_takes maps bytes m part rest fits e =
     let a = bind_some (shared_map_at maps bytes) _ ((m, part), rest) e in
     let b = bind_some (number_at w32 a.0.1) _ ((m, part), rest) a.2 in
-    let d = where_true_some (nat_lt b.0.0 PARTS) ((a.0.0.0, b.0.0), b.0.1) ((m, part), rest) b.2 in
+    let d = where_true_some (is_part_number b.0.0) ((a.0.0.0, b.0.0), b.0.1) ((m, part), rest) b.2 in
     let s = shared_takes maps bytes a.0.0.0 a.0.0.1.0 a.0.0.1.1 a.0.1 fits a.1 in
     let n = number_takes w32 wide32 a.0.1 b.0.0 b.0.1 s.map.took.rest_fits b.1 in
     let made : PartTook maps bytes a.0.0.0 b.0.0 b.0.1 = record {
@@ -192,11 +193,11 @@ part_takes maps bytes m part rest fits e =
       named = s.map.named;
       shared = held_shared a.0.0.1.0.kind a.0.0.1.1 s.held;
       took = Takes-then bytes (to_le_bytes w32 a.0.0.0.0) a.0.1 (to_le_bytes w32 b.0.0) b.0.1 s.map.took n.0;
-      below = ltb-true b.0.0 PARTS d.0;
+      below = part_number_told b.0.0 d.0;
     } in
     subst (λ (p : (MapId × ℕ) × List ℕ). PartTook maps bytes p.0.0 p.0.1 p.1) d.1 made
 
-pub part_again : (maps : List MapDecl) (m : MapId) (decl : MapDecl) (part : ℕ) (rest : List ℕ) → Named maps m decl → IsShared decl.kind → part < PARTS
+pub part_again : (maps : List MapDecl) (m : MapId) (decl : MapDecl) (part : ℕ) (rest : List ℕ) → Named maps m decl → IsShared decl.kind → IsPartNumber part
     → part_at maps (to_le_bytes w32 m.0 ++ (to_le_bytes w32 part ++ rest)) ≡ Some ((m, part), rest)
 unfolding part_at
 part_again maps m decl part rest named shared below =
@@ -204,7 +205,7 @@ part_again maps m decl part rest named shared below =
     let few : part < 2 ^ 32 = omega (arith, below) in
     bind_to (shared_map_at maps (to_le_bytes w32 m.0 ++ (to_le_bytes w32 part ++ rest))) _ ((m, (decl, h.0)), to_le_bytes w32 part ++ rest) _ (shared_again maps m decl h.0 (to_le_bytes w32 part ++ rest) named h.1)
     (bind_to (number_at w32 (to_le_bytes w32 part ++ rest)) _ (part, rest) _ (number_again w32 wide32 part rest few)
-    (ap (λ (b : Bool). where_true b ((m, part), rest)) (lt-ltb part PARTS below)))
+    (ap (λ (b : Bool). where_true b ((m, part), rest)) (part_number_tells part below)))
 
 pub record TablesTook (maps : List MapDecl) (actors : ℕ) (bytes : List ℕ) (m : MapId) (table : ℕ) (rest : List ℕ) : Type 0 where
   pub decl : MapDecl

@@ -4,7 +4,7 @@ use Rattle.std.specs.Prelude.{ℕ, zero, suc, Bool, true, false, nat_le, nat_lt,
 use Rattle.std.specs.Cmp.Lexicographic.{pointwise}
 use Rattle.std.specs.Int.{w32, w64, cast_signed}
 use Rattle.bt_core.specs.declared.item.Item.TheVariants.{Cut}
-use Rattle.bt_core.specs.declared.limits.TheConstants.{KEY_PARTS, PARTS}
+use Rattle.bt_core.specs.declared.limits.TheConstants.{KEY_PARTS}
 use Rattle.bt_core.specs.declared.map.MapDecl.{MapDecl}
 use Rattle.bt_core.specs.declared.map.MapId.{MapId}
 use Rattle.bt_core.specs.declared.map.MapKind.{MapKind}
@@ -23,6 +23,7 @@ use Rattle.bt_core.specs.KeyBytes.{value_bytes, part_of}
 use Rattle.bt_core.specs.Ports.{Setting}
 use Rattle.bt_core.specs.Text.{short_text}
 use Rattle.recordings.specs.Fronts.{◌>>=◌, where_true, bytes_at, number_at}
+use Rattle.map_ops.specs.Parts.{is_part_number}
 use Rattle.account_format.specs.declared.kind.Kind.{Kind}
 use Rattle.account_format.specs.declared.kind.Kind.TheVariants as kinds
 
@@ -100,7 +101,7 @@ set_at maps bytes =
 
 -- a part of a shared map
 unfoldable pub part_at : List MapDecl → List ℕ → Option ((MapId × ℕ) × List ℕ)
-part_at maps bytes = shared_map_at maps bytes >>= λ map. number_at w32 map.1 >>= λ part. where_true (nat_lt part.0 PARTS) ((map.0.0, part.0), part.1)
+part_at maps bytes = shared_map_at maps bytes >>= λ map. number_at w32 map.1 >>= λ part. where_true (is_part_number part.0) ((map.0.0, part.0), part.1)
 
 unfoldable pub sweep_at : List MapDecl → Op → List ℕ → Asked
 sweep_at maps op bytes = part_at maps bytes >>= λ found. Some ((Shared found.0.0 found.0.1, op), found.1)

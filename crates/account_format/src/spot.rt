@@ -6,9 +6,9 @@ ghost use Rattle.account_format.specs.Reading.{held_shape, is_aggregation, map_a
 use crate::number::u32_at;
 use crate::value::key_at;
 use bt_core::key::Key;
-use bt_core::limits::PARTS;
 use bt_core::map::{MapDecl, MapId, MapKind, Shape};
 use bt_core::memory::Memory;
+use map_ops::parts::is_part_number;
 use std::alloc::Global;
 
 /// The shape of what a map of this kind holds under a key, where it is no aggregation.
@@ -92,7 +92,7 @@ pub(crate) fn part_at<'b>(maps: &[MapDecl], bytes: &'b [u8]) -> Option<((MapId, 
     let Some((part, rest)) = u32_at(rest) else {
         return None;
     };
-    if part < PARTS {
+    if is_part_number(part) {
         Some(((map, part), rest))
     } else {
         None

@@ -11,7 +11,6 @@ use Rattle.bt_core.specs.declared.map.MapDecl.{MapDecl}
 use Rattle.bt_core.specs.declared.map.MapId.{MapId}
 use Rattle.bt_core.specs.declared.map.MapKind.{MapKind}
 use Rattle.bt_core.specs.declared.map.MapKind.TheVariants.{Ints, Strs, Aggs}
-use Rattle.bt_core.specs.declared.limits.TheConstants.{PARTS}
 use Rattle.bt_core.specs.declared.step.ObjectId.{ObjectId}
 use Rattle.bt_core.specs.declared.step.ObjectId.TheVariants.{Shared, Cpu, Clock, Out}
 use Rattle.bt_core.specs.declared.step.Op.{Op}
@@ -209,16 +208,16 @@ clock-kind ticks cpus before Stop = refl
 clock-kind ticks cpus before (Emit i) = refl
 
 -- a part of the map that is declared, if it is
-part-kind : (part : ℕ) (o : Option MapDecl) (before : List Op) (op : Op)
-    → All (λ p. (part < PARTS) × IsSomeAnd o (λ decl. IsShared decl.kind × IsSharedOp decl p)) before → (part < PARTS) × IsSomeAnd o (λ decl. IsShared decl.kind × IsSharedOp decl op)
+part-kind : (P : Type 0) (o : Option MapDecl) (before : List Op) (op : Op)
+    → All (λ p. P × IsSomeAnd o (λ decl. IsShared decl.kind × IsSharedOp decl p)) before → P × IsSomeAnd o (λ decl. IsShared decl.kind × IsSharedOp decl op)
     → IsSomeAnd o (λ decl. IsSharedReply decl op (shared_answer (kind_of_decl o) before op))
-part-kind part None before op all own = absurd own.1
-part-kind part (Some decl) before op all own = shared_answer-kind decl before op own.1.0
-    (All-weaker (λ p. (part < PARTS) × (IsShared decl.kind × IsSharedOp decl p)) (IsSharedOp decl) (λ p both. both.1.1) before all)
+part-kind P None before op all own = absurd own.1
+part-kind P (Some decl) before op all own = shared_answer-kind decl before op own.1.0
+    (All-weaker (λ p. P × (IsShared decl.kind × IsSharedOp decl p)) (IsSharedOp decl) (λ p both. both.1.1) before all)
 
 pub answer-kind : (s : Setting) (cpus : ℕ) (object : ObjectId) (before : List Op) (op : Op) → All IsFineDecl s.maps → All (CanStep s object) before → CanStep s object op
     → IsReplyOf s.maps object op (answer s.maps cpus object before op)
-answer-kind s cpus (Shared map part) before op fine all own = part-kind part (slice_get s.maps map.0) before op all own
+answer-kind s cpus (Shared map part) before op fine all own = part-kind _ (slice_get s.maps map.0) before op all own
 answer-kind s cpus (Cpu actor) before op fine all own =
     table_answer-kind s.maps before op fine (All-weaker (CanStep s (Cpu actor)) (IsTableOp s.maps) (λ p both. both.1) before all) own.1
 answer-kind s cpus Clock before op fine all own = clock-kind s.ticks cpus before op

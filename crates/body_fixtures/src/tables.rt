@@ -8,11 +8,11 @@ use bt_core::ending::Ending;
 use bt_core::item::{Cell, Item};
 use bt_core::items::Items;
 use bt_core::key::Key;
-use bt_core::limits::PARTS;
-use bt_core::map::{AggKind, MapId};
+use bt_core::map::{AggKind, MapId, MapKind};
 use bt_core::step::{ObjectId, Op, Reply, Step};
 use bt_core::text::Str64;
 use bt_core::value::Value;
+use map_ops::parts::parts_in;
 use std::alloc::Global;
 use std::test::Fail;
 
@@ -197,7 +197,7 @@ fn is_op(does: Does, op: &Op) -> bool {
 /// On how many objects an operation is made, beside so many actors.
 fn objects_of(does: Does, actors: u32) -> u32 {
     match does {
-        Does::ReadParts(_) | Does::ClearParts(_) | Does::ZeroParts(_) => PARTS,
+        Does::ReadParts(_) | Does::ClearParts(_) | Does::ZeroParts(_) => parts_in(MapKind::Ints),
         Does::ReadTables(_) | Does::ClearTables(_) | Does::ZeroTables(_) => actors,
         _ => 1,
     }

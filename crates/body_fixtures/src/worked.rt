@@ -3,10 +3,11 @@ use crate::moments::{AT_MINUS_FOUR, AT_ONE, AT_TWO, LEFT, MAIN, Moment};
 use bt_core::ending::Ending;
 use bt_core::items::Items;
 use bt_core::key::Key;
-use bt_core::limits::PARTS;
+use bt_core::map::MapKind;
 use bt_core::memory::Memory;
 use bt_core::step::Reply;
 use bt_core::value::Value;
+use map_ops::parts::parts_in;
 use std::alloc::Global;
 
 /// How long it takes from the one event of a thread to the other.
@@ -46,8 +47,8 @@ pub const FIVE: &[u8] =
 /// A number that counts a thousand turns.
 pub const COUNTS: &[u8] = b"BEGIN { $i = 0; while ($i < 1000) { $i = $i + 1; } @x = $i; }";
 
-/// The number of parts of a map, each of which is read, and cleared.
-const EACH_PART: usize = PARTS as usize;
+/// The number of parts of a shared map, each of which is read, and cleared.
+const EACH_PART: usize = 8;
 
 /// A body of a script by its number, the moment, what is read from maps, how many steps its walk makes, and how it ends.
 pub type Row = (&'static [u8], usize, Moment, &'static [i64], usize, Ending);
@@ -110,7 +111,7 @@ pub fn push_rows(
     rows: Items<(Key, Value)>,
 ) -> Result<(), Memory> {
     replies.push(Reply::Pairs(rows))?;
-    for _part in 1..PARTS {
+    for _part in 1..parts_in(MapKind::Ints) {
         replies.push(Reply::Pairs(Items::new(alloc)))?;
     }
     Ok(())

@@ -2,7 +2,6 @@
 use Rattle.std.proofs.Common.{◌≡◌, ℕ, zero, suc, ◌+◌, ◌<◌, ◌≤◌, List, [], ◌∷◌, ◌++◌, length, true, false, Option, Some, None, refl, sym, ap, ◌∙◌, subst, arith, append_assoc, append-nil}
 use Rattle.std.specs.Prelude.{ℤ, pos, ◌&&◌, slice_get, cond, IsSomeAnd}
 use Rattle.std.proofs.lemmas.Bool.{and_parts}
-use Rattle.bt_core.specs.declared.limits.TheConstants.{PARTS}
 use Rattle.bt_core.specs.declared.map.MapDecl.{MapDecl}
 use Rattle.bt_core.specs.declared.map.MapId.{MapId}
 use Rattle.bt_core.specs.declared.map.MapKind.{MapKind}
@@ -27,6 +26,7 @@ use Rattle.ir_code.specs.declared.state.State.{State}
 use Rattle.map_ops.specs.declared.sweep.Sweep.{Sweep}
 use Rattle.map_ops.specs.declared.sweep.Sweep.TheVariants.{Read, Clear, Zero}
 use Rattle.map_ops.specs.Holders.{part, kind_of, kind_in, holder, holders, sweep_op, CanSweep}
+use Rattle.map_ops.proofs.PartLaws.{part_below}
 use Rattle.map_ops.proofs.Sweeping.{sweep_step}
 use Rattle.map_ops.specs.Asking.{asked_from, swept}
 use Rattle.ir_code.specs.Figures.{sizes_of, instr_bytes}
@@ -38,9 +38,6 @@ use Rattle.map_ops.specs.Values.{number_of}
 use Rattle.ir_code.specs.Stacks.{top, below}
 use Rattle.bt_ir.proofs.Asks.{Can-and_then}
 use Rattle.ir_code.proofs.Shaped.{same_shapes-is, ends_is, shaped-split, shaped-pop, shaped-put, as_shape-shaped, shape_of-shaped}
-
-part_below : (key : List Value) → part_of key < PARTS
-part_below key = omega arith
 
 -- a declaration that is served, with these keys
 pub record Found (setting : Setting) (m : MapId) (key : List Shape) (holds : MapKind → Type 0) : Type 0 where

@@ -17,7 +17,8 @@ use Rattle.actor_plan.specs.Plans.{Plan}
 use Rattle.actor_plan.specs.Ready as actors
 use Rattle.percpu_tables.specs.Tables.{table_actors, table_ids}
 use Rattle.shared_maps.specs.Maps.{part_maps, part_ids}
-use Rattle.shared_maps.specs.Parts.{Part, part_at, parts_in, parts_from}
+use Rattle.map_ops.specs.Parts.{parts_in}
+use Rattle.shared_maps.specs.Parts.{Part, part_at, parts_from}
 use Rattle.side_locks.specs.Steps.{OwnBoth}
 use Rattle.side_locks.specs.Turns.{Both}
 use Rattle.cpu_worker.specs.declared.world.SharedWorld.{SharedWorld}

@@ -4,7 +4,7 @@ use Rattle.std.specs.Prelude.{ℤ, not, IsTrue, IsSomeAnd, slice_get, nat_le, na
 use Rattle.std.specs.List.{list_all}
 use Rattle.std.specs.Option.{option_and_then}
 use Rattle.std.proofs.lemmas.Bool.{and_parts, ltb-true, leb-true}
-use Rattle.bt_core.specs.declared.limits.TheConstants.{KEY_PARTS, PARTS}
+use Rattle.bt_core.specs.declared.limits.TheConstants.{KEY_PARTS}
 use Rattle.bt_core.specs.declared.map.MapDecl.{MapDecl}
 use Rattle.bt_core.specs.declared.map.MapKind.{MapKind}
 use Rattle.bt_core.specs.declared.map.MapKind.TheVariants.{Ints, Strs, Aggs}
@@ -23,6 +23,7 @@ use Rattle.helper_abi.specs.Helpers.{numbered, map_id, of_sort, table_map, value
 use Rattle.helper_abi.specs.Reading.{shape_bytes, shape_of_kind}
 use Rattle.helper_abi.specs.Served.{ServesMaps, HasRoom}
 use Rattle.map_ops.specs.Holders.{part, CanSweep}
+use Rattle.map_ops.proofs.PartLaws.{part_below}
 
 cond_some : {A : Type 0} (b : Bool) (o : Option A) (a : A) → cond b o None ≡ Some a → (b ≡ true) × (o ≡ Some a)
 cond_some true o a e = (refl, e)
@@ -96,9 +97,6 @@ served_at : (maps : List MapDecl) (setting : Setting) (n : ℕ) (decl : MapDecl)
 served_at maps setting n decl P serves e h =
     let is : slice_get setting.maps n ≡ Some decl = ap (λ (l : List MapDecl). slice_get l n) serves.same ∙ e in
     subst (λ (o : Option MapDecl). IsSomeAnd o P) (sym is) h
-
-part_below : (key : List Value) → part_of key < PARTS
-part_below key = omega arith
 
 module _ (maps : List MapDecl) (setting : Setting) (n : ℕ) (decl : MapDecl) (serves : ServesMaps maps setting) (key : List Value) (shaped : HasShape decl.key_shape key) where
   can_share : value_map maps n ≡ Some decl → (op : Op) → IsSharedOp decl op → CanStep setting (part (map_id n) key) op

@@ -1,3 +1,4 @@
+pub mod PartLaws
 pub mod Replied
 pub mod Sweeping
 pub mod AggSums

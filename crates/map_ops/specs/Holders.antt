@@ -1,6 +1,5 @@
 -- The objects that hold maps, and the operations on whole maps.
 use Rattle.std.specs.Prelude.{◌≡◌, ℕ, List, Option, Some, None, slice_get, IsSomeAnd}
-use Rattle.bt_core.specs.declared.limits.TheConstants.{PARTS}
 use Rattle.bt_core.specs.declared.map.MapDecl.{MapDecl}
 use Rattle.bt_core.specs.declared.map.MapId.{MapId}
 use Rattle.bt_core.specs.declared.map.MapKind.{MapKind}
@@ -14,6 +13,7 @@ use Rattle.bt_core.specs.KeyBytes.{part_of}
 use Rattle.bt_core.specs.Ports.{Setting}
 use Rattle.map_ops.specs.declared.sweep.Sweep.{Sweep}
 use Rattle.map_ops.specs.declared.sweep.Sweep.TheVariants.{Read, Clear, Zero}
+use Rattle.map_ops.specs.Parts.{parts_in}
 
 -- the part of a shared map that a key is in
 abbrev pub part : MapId → List Value → ObjectId
@@ -34,7 +34,7 @@ holder kind m n = Shared m n
 
 abbrev pub holders : MapKind → ℕ → ℕ
 holders (Aggs kind) actors = actors
-holders kind actors = PARTS
+holders kind actors = parts_in kind
 
 -- the operation of a sweep on one of them
 abbrev pub sweep_op : Sweep → MapKind → MapId → Op

@@ -1,4 +1,5 @@
 pub mod Values
 pub mod Builtins
+pub mod Parts
 pub mod Holders
 pub mod Asking

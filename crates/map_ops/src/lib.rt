@@ -3,6 +3,7 @@
 
 pub mod access;
 pub mod builtin;
+pub mod parts;
 pub mod printing;
 pub mod summing;
 pub mod sweep;

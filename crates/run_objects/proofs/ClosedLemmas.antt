@@ -45,7 +45,7 @@ all_without kind_of holds fits steps id owns all k d lt =
 module _ (w : World) (steps : List Step) where
   parts_without : (m : ℕ) (held : MapParts) → PartsStand w steps m held → AreParts w steps m (objects_in held)
   parts_without m held stand = record {
-    count = λ decl there shared. length-map held.parts.items object_of ∙ stand.count decl there shared;
+    count = λ decl there. length-map held.parts.items object_of ∙ stand.count decl there;
     each = all_without shared_kind SharedStands (IsPartOf w.maps m) steps (Shared (map_at m)) held.parts.items stand.each;
   }
 

@@ -68,19 +68,19 @@ module _ (at : Moment) (closed : Closed) (m : MapId) (decl : MapDecl) (is : AreC
         → IfOk r (λ replies. replies.items ≡ read_of at.world.maps at.world.cpus decl.kind m at.steps)
     parts_reply sh (Err x) h = tt
     parts_reply sh (Ok replies) h = h at.world.maps at.steps decl there stands_all
-        ∙ ap (of_first (part_reply at.world.maps at.steps m decl)) (ap length same ∙ stands.count decl there sh) ∙ sym (part_reads at m decl there sh)
+        ∙ ap (of_first (part_reply at.world.maps at.steps m decl)) (ap length same ∙ stands.count decl there) ∙ sym (part_reads at m decl there sh)
 
     pub parts_lost : IsShared decl.kind → (r : Result ℕ Memory)
         → IfOk r (λ lost. (maps : List MapDecl) (steps : List Step) → AllStandAt shared_kind SharedStands (IsPartOf maps m.0) steps (Shared m) parts → lost ≡ sum (of_first (part_lost maps steps m) (length parts)))
         → IfOk r (λ lost. lost ≡ lost_after at.world.maps at.world.cpus at.steps m decl)
     parts_lost sh (Err x) h = tt
     parts_lost sh (Ok lost) h = h at.world.maps at.steps stands_all
-        ∙ ap (λ n. sum (of_first (part_lost at.world.maps at.steps m) n)) (ap length same ∙ stands.count decl there sh) ∙ sym (part_losses at m decl there sh)
+        ∙ ap (λ n. sum (of_first (part_lost at.world.maps at.steps m) n)) (ap length same ∙ stands.count decl there) ∙ sym (part_losses at m decl there sh)
 
     pub parts_beyond : IsShared decl.kind → (r : Result ℕ Memory)
         → OnErr r ((maps : List MapDecl) (steps : List Step) → AllStandAt shared_kind SharedStands (IsPartOf maps m.0) steps (Shared m) parts → 2 ^ 64 ≤ sum (of_first (part_lost maps steps m) (length parts)))
         → OnErr r (2 ^ 64 ≤ lost_after at.world.maps at.world.cpus at.steps m decl)
     parts_beyond sh (Ok lost) h = tt
     parts_beyond sh (Err x) h =
-        subst (λ n. 2 ^ 64 ≤ n) (ap (λ n. sum (of_first (part_lost at.world.maps at.steps m) n)) (ap length same ∙ stands.count decl there sh) ∙ sym (part_losses at m decl there sh))
+        subst (λ n. 2 ^ 64 ≤ n) (ap (λ n. sum (of_first (part_lost at.world.maps at.steps m) n)) (ap length same ∙ stands.count decl there) ∙ sym (part_losses at m decl there sh))
         (h at.world.maps at.steps stands_all)

@@ -52,7 +52,7 @@ new_stand w objects maps tables count ticks out =
           let decl = get_or w.maps m none in
           let there = slice_get-get_or w.maps m none (let c = maps.count in omega arith) in
           let new = maps.each m decl d there in record {
-            count = λ e found shared. (maps.each m e d found).count shared;
+            count = λ e found. (maps.each m e d found).count;
             each = λ k x below. new_stands shared_kind SharedStands (IsPartOf w.maps m) (record { map = map_at m; decl = decl }) (Shared (map_at m) k) (get_or (slice_index_or objects.shared.items m d).parts.items k x)
                 (record { number = refl; declared = there }) (new.new k x below);
           };

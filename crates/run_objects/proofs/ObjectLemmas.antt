@@ -20,6 +20,7 @@ use Rattle.bt_core.specs.Ports.{IsSharedOp}
 use Rattle.bt_core.specs.Steps.{is_same_object, on_object, operations}
 use Rattle.bt_core.proofs.StepLists.{is_same_object-refl, on_object-append, operations-append}
 use Rattle.agg_core.specs.Answers.{shared_answer, table_answer, clock_answer, kind_of_decl}
+use Rattle.map_ops.proofs.PartLaws.{shared_has_part}
 use Rattle.step_objects.specs.declared.clock.ClockKind.{ClockKind}
 use Rattle.step_objects.specs.declared.clock.TickClock.{TickClock}
 use Rattle.step_objects.specs.declared.out.OutLog.{OutLog}
@@ -294,7 +295,7 @@ module _ (objects : Objects) (op : Op) (floor : ℕ) where
     parts_of w steps st own = subst (PartsStand w steps m.0) (sym at) (st.shared m.0 one (map_within w steps st own))
 
     part_within : (w : World) (steps : List Step) (st : Stand w steps objects) (own : IsOwn w (Shared m p) op) → p < length one.parts.items
-    part_within w steps st own = let d = decl_there w steps st own in let c = (parts_of w steps st own).count d.0 d.1 d.2 in let lt = own.0 in omega arith
+    part_within w steps st own = let d = decl_there w steps st own in let c = (parts_of w steps st own).count d.0 d.1 in let lt = shared_has_part d.0.kind _ d.2.0 own.0 in omega arith
 
     map_count_next : (w : World) (steps : List Step) → Stand w steps objects → length next.shared.items ≡ length w.maps
     map_count_next w steps st = ap length set ∙ length-set objects.shared.items m.0 other ∙ st.map_count
@@ -325,7 +326,7 @@ module _ (objects : Objects) (op : Op) (floor : ℕ) where
             shared = subst (λ (l : List MapParts). (k : ℕ) (d : MapParts) → k < length l → PartsStand w (steps ++ s ∷ []) k (slice_index_or l k d)) (sym set)
                 (at_place (λ k x. PartsStand w (steps ++ s ∷ []) k x) objects.shared.items m.0 other (map_within w steps st own)
                 (record {
-                  count = λ decl e sh. ap length t.now ∙ length-set one.parts.items p t.other ∙ parts.count decl e sh;
+                  count = λ decl e. ap length t.now ∙ length-set one.parts.items p t.other ∙ parts.count decl e;
                   each = all_took shared_kind SharedStands part_answer fits steps op floor p one.parts.items other.parts.items (Shared m) lt parts.each parts_apart r by t;
                 })
                 (λ k d ne below. let those = st.shared k d below in record {
@@ -349,7 +350,7 @@ module _ (objects : Objects) (op : Op) (floor : ℕ) where
           shared = subst (λ (l : List MapParts). (k : ℕ) (d : MapParts) → k < length l → PartsStand w steps k (slice_index_or l k d)) (sym set)
               (at_place (λ k x. PartsStand w steps k x) objects.shared.items m.0 other (map_within w steps st own)
               (record {
-                count = λ decl e sh. ap length t.now ∙ length-set one.parts.items p t.other ∙ parts.count decl e sh;
+                count = λ decl e. ap length t.now ∙ length-set one.parts.items p t.other ∙ parts.count decl e;
                 each = all_kept shared_kind SharedStands part_answer (IsPartOf w.maps m.0) steps op floor p one.parts.items other.parts.items (Shared m) lt parts.each x t;
               })
               (λ k d ne below. st.shared k d below));

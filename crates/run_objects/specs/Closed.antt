@@ -1,11 +1,11 @@
 -- The objects of a run that has ended, which stand for its steps.
 use Rattle.std.specs.Prelude.{◌≡◌, ℕ, ◌+◌, ◌<◌, List, All, length, map, Some, slice_get, slice_index_or, Vec}
 use Rattle.std.specs.declared.alloc.Global.{Global}
-use Rattle.bt_core.specs.declared.limits.TheConstants.{PARTS}
 use Rattle.bt_core.specs.declared.map.MapDecl.{MapDecl}
 use Rattle.bt_core.specs.declared.step.ObjectId.TheVariants.{Shared, Cpu}
 use Rattle.bt_core.specs.declared.step.Step.{Step}
-use Rattle.bt_core.specs.Kinds.{IsFineDecl, IsShared}
+use Rattle.bt_core.specs.Kinds.{IsFineDecl}
+use Rattle.map_ops.specs.Parts.{parts_in}
 use Rattle.turn_lock.specs.History.{Each}
 use Rattle.step_objects.specs.declared.shared.SharedPart.{SharedPart}
 use Rattle.step_objects.specs.CpuTables.{map_at}
@@ -27,9 +27,9 @@ objects_in held = map object_of held.parts.items
 abbrev pub part_list : Vec SharedPart Global → List SharedPart
 part_list parts = parts.items
 
--- all parts of the map with this number, if it is shared
+-- all parts of the map with this number: none of an aggregation
 pub record AreParts (w : World) (steps : List Step) (m : ℕ) (parts : List SharedPart) : Type 0 where
-  pub count : (decl : MapDecl) → slice_get w.maps m ≡ Some decl → IsShared decl.kind → length parts ≡ PARTS
+  pub count : (decl : MapDecl) → slice_get w.maps m ≡ Some decl → length parts ≡ parts_in decl.kind
   pub each : AllStandAt shared_kind SharedStands (IsPartOf w.maps m) steps (Shared (map_at m)) parts
 
 -- all objects of a world that hold maps

@@ -1,14 +1,13 @@
 -- Objects of a run that stand for the steps at them. No public contract speaks of it.
 use Rattle.std.specs.Prelude.{◌≡◌, ℕ, suc, max, ◌+◌, ◌<◌, List, [], ◌∷◌, ◌++◌, length, slice_get, slice_index_or, Some}
-use Rattle.bt_core.specs.declared.limits.TheConstants.{PARTS}
 use Rattle.bt_core.specs.declared.map.MapDecl.{MapDecl}
 use Rattle.bt_core.specs.declared.step.ObjectId.{ObjectId}
 use Rattle.bt_core.specs.declared.step.ObjectId.TheVariants.{Shared, Cpu, Clock, Out}
 use Rattle.bt_core.specs.declared.step.Op.{Op}
 use Rattle.bt_core.specs.declared.step.Reply.{Reply}
 use Rattle.bt_core.specs.declared.step.Step.{Step}
-use Rattle.bt_core.specs.Kinds.{IsShared}
 use Rattle.bt_core.specs.Steps.{on_object, operations}
+use Rattle.map_ops.specs.Parts.{parts_in}
 use Rattle.step_objects.specs.declared.shared.PartKind.{PartKind}
 use Rattle.step_objects.specs.Clocks.{clock_kind, ClockStands}
 use Rattle.step_objects.specs.CpuTables.{map_at}
@@ -44,9 +43,9 @@ pub record IsPartOf (maps : List MapDecl) (m : ℕ) (of : PartKind) : Type 0 whe
   pub number : of.map ≡ map_at m
   pub declared : slice_get maps m ≡ Some of.decl
 
--- all parts of a map that is shared
+-- all parts of a map: none of an aggregation
 pub record PartsStand (w : World) (steps : List Step) (m : ℕ) (list : MapParts) : Type 0 where
-  pub count : (decl : MapDecl) → slice_get w.maps m ≡ Some decl → IsShared decl.kind → length list.parts.items ≡ PARTS
+  pub count : (decl : MapDecl) → slice_get w.maps m ≡ Some decl → length list.parts.items ≡ parts_in decl.kind
   pub each : AllStand shared_kind SharedStands (IsPartOf w.maps m) steps (Shared (map_at m)) list.parts.items
 
 -- all objects of a world

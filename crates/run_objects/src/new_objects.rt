@@ -1,7 +1,6 @@
 // Objects that no step was made at yet.
 ghost use Rattle.std.specs.Prelude.{◌≡◌, ◌+◌, ◌<◌, ◌^◌, [], length, All, IfOk};
-ghost use Rattle.bt_core.specs.Kinds.{IsFineDecl, IsShared};
-ghost use Rattle.bt_core.specs.declared.limits.TheConstants.{PARTS as ALL_PARTS};
+ghost use Rattle.bt_core.specs.Kinds.{IsFineDecl};
 ghost use Rattle.step_objects.specs.Objects.{shared_kind, SharedStands, cpu_kind, CpuStands};
 ghost use Rattle.run_objects.specs.News.{AreNew, AreNewParts, NewMaps};
 ghost use Rattle.run_objects.specs.Objects.{Stand};
@@ -10,39 +9,25 @@ use crate::numbers::number;
 use crate::objects::{MapParts, Objects};
 use crate::own::OwnObject;
 use bt_core::items::Items;
-use bt_core::limits::PARTS;
-use bt_core::map::{MapDecl, MapId, MapKind};
+use bt_core::map::{MapDecl, MapId};
 use bt_core::memory::{Memory, TryCopy};
+use map_ops::parts::parts_in;
 use std::alloc::Global;
 use step_objects::clock::TickClock;
 use step_objects::cpu::CpuTable;
 use step_objects::out::OutLog;
 use step_objects::shared::SharedPart;
 
-/// All parts of a shared map.
-fn all_parts(alloc: Global, map: u32, decl: &MapDecl) -> Result<MapParts, Memory>
-    requires { IsShared decl.now.kind }
-    ensures new { IfOk result (λ list. AreNew shared_kind SharedStands (record { map = record { 0 = map }; decl = decl.now }) list.parts.items) }
-    ensures count { IfOk result (λ list. length list.parts.items ≡ ALL_PARTS) }
-{
-    let mut parts = Vec::new(alloc);
-    for _ in 0..PARTS {
-        let object = SharedPart::new(alloc, MapId(map), decl.try_copy(alloc)?)?;
-        parts.push(OwnObject { object, clock: 0 })?;
-    }
-    Ok(MapParts { parts })
-}
-
 /// The parts of a map: none of an aggregation.
 fn parts_of(alloc: Global, map: u32, decl: &MapDecl) -> Result<MapParts, Memory>
     ensures { IfOk result (λ list. AreNewParts map decl.now list) }
 {
-    match decl.kind {
-        MapKind::Ints | MapKind::Strs => all_parts(alloc, map, decl),
-        MapKind::Aggs(_) => Ok(MapParts {
-            parts: Vec::new(alloc),
-        }),
+    let mut parts = Vec::new(alloc);
+    for _ in 0..parts_in(decl.kind) {
+        let object = SharedPart::new(alloc, MapId(map), decl.try_copy(alloc)?)?;
+        parts.push(OwnObject { object, clock: 0 })?;
     }
+    Ok(MapParts { parts })
 }
 
 /// The parts of all maps, each map at its number.

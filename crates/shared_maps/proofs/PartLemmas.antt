@@ -1,11 +1,8 @@
 -- A part of a map, its operations and the kind of its replies.
 use Rattle.std.proofs.Common.{◌≡◌, ℕ, zero, suc, ◌+◌, ◌<◌, List, [], ◌∷◌, map, get_or, refl, sym, ap, subst, arith, Option, None, Some}
 use Rattle.std.specs.Prelude.{slice_get, IsSomeAnd}
-use Rattle.bt_core.specs.declared.limits.TheConstants.{PARTS}
 use Rattle.bt_core.specs.declared.map.MapDecl.{MapDecl}
 use Rattle.bt_core.specs.declared.map.MapId.{MapId}
-use Rattle.bt_core.specs.declared.map.MapKind.{MapKind}
-use Rattle.bt_core.specs.declared.map.MapKind.TheVariants.{Ints, Strs, Aggs}
 use Rattle.bt_core.specs.declared.step.ObjectId.{ObjectId}
 use Rattle.bt_core.specs.declared.step.ObjectId.TheVariants.{Shared, Cpu, Clock, Out}
 use Rattle.bt_core.specs.declared.step.Op.{Op}
@@ -20,7 +17,9 @@ use Rattle.stamped.specs.SetSteps.{IsReplied}
 use Rattle.stamped.specs.Traces.{steps_of}
 use Rattle.stamped.proofs.OutcomeLemmas.{each_all}
 use Rattle.step_objects.specs.CpuTables.{map_at}
-use Rattle.shared_maps.specs.Parts.{Part, IsPart, IsPartStep, IsPartFor, parts_in, parts_from, firsts_from}
+use Rattle.map_ops.specs.Parts.{parts_in}
+use Rattle.map_ops.proofs.PartLaws.{shared_has_part}
+use Rattle.shared_maps.specs.Parts.{Part, IsPart, IsPartStep, IsPartFor, parts_from, firsts_from}
 use Rattle.shared_maps.proofs.PlaceLemmas.{part_place}
 
 pub there_is : {A : Type 0} (P : A → Type 0) (o : Option A) → IsSomeAnd o P → (x : A) × (o ≡ Some x) × P x
@@ -37,16 +36,11 @@ step_is_at_part maps (Cpu a) op h = absurd h
 step_is_at_part maps Clock op h = absurd h
 step_is_at_part maps Out op h = absurd h
 
-all_parts : (kind : MapKind) → IsShared kind → parts_in kind ≡ PARTS
-all_parts Ints h = refl
-all_parts Strs h = refl
-all_parts (Aggs k) h = absurd h
-
 -- the place that is counted from where the map's parts begin
 pub part_there : (maps : List MapDecl) (m : MapId) (p first : ℕ) → IsPart maps (Shared m p) → first ≡ get_or (firsts_from 0 maps) m.0 first
     → IsSomeAnd (slice_get (parts_from 0 maps) (first + p)) (IsPartFor maps (Shared m p))
 part_there maps m p first h at =
-    let d = there_is (λ (d : MapDecl). IsShared d.kind) (slice_get maps m.0) h.1 in let lt : p < parts_in d.0.kind = let e = all_parts d.0.kind d.2 in let below = h.0 in omega arith in
+    let d = there_is (λ (d : MapDecl). IsShared d.kind) (slice_get maps m.0) h.1 in let lt : p < parts_in d.0.kind = shared_has_part d.0.kind p d.2 h.0 in
     let e = part_place 0 0 [] maps m.0 p first d.0 refl d.1 lt at in let z : 0 + m.0 ≡ m.0 = omega arith in
     subst (λ o. IsSomeAnd o (IsPartFor maps (Shared m p))) (sym e)
     (ap (λ n. Shared (map_at n) p) z, ap map_at z, d.1)

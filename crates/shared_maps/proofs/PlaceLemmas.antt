@@ -13,7 +13,8 @@ use Rattle.stamped.proofs.NumberedLemmas.{numbered_length, numbered_get, numbere
 use Rattle.step_objects.specs.declared.shared.SharedPart.{SharedPart}
 use Rattle.step_objects.specs.CpuTables.{map_at}
 use Rattle.step_objects.specs.Objects.{shared_kind}
-use Rattle.shared_maps.specs.Parts.{Part, part_at, parts_in, parts_from, firsts_from, made_for}
+use Rattle.map_ops.specs.Parts.{parts_in}
+use Rattle.shared_maps.specs.Parts.{Part, part_at, parts_from, firsts_from, made_for}
 
 get_right : {A : Type 0} (xs ys : List A) (k : ℕ) → slice_get (xs ++ ys) (length xs + k) ≡ slice_get ys k
 get_right [] ys k = ap (slice_get ys) (let e : 0 + k ≡ k = omega arith in e)

@@ -1,14 +1,12 @@
 -- The parts of shared maps as objects of steps.
-use Rattle.std.specs.Prelude.{◌≡◌, ℕ, ◌+◌, ◌<◌, List, [], ◌∷◌, ◌++◌, map, slice_get, Some}
-use Rattle.bt_core.specs.declared.limits.TheConstants.{PARTS}
+use Rattle.std.specs.Prelude.{◌≡◌, ℕ, ◌+◌, List, [], ◌∷◌, ◌++◌, map, slice_get, Some}
 use Rattle.bt_core.specs.declared.map.MapDecl.{MapDecl}
-use Rattle.bt_core.specs.declared.map.MapKind.{MapKind}
-use Rattle.bt_core.specs.declared.map.MapKind.TheVariants.{Aggs}
 use Rattle.bt_core.specs.declared.step.ObjectId.{ObjectId}
 use Rattle.bt_core.specs.declared.step.ObjectId.TheVariants.{Shared}
 use Rattle.bt_core.specs.declared.step.Op.{Op}
 use Rattle.bt_core.specs.Kinds.{IsShared}
 use Rattle.bt_core.specs.Ports.{Serves, IsSharedOp}
+use Rattle.map_ops.specs.Parts.{IsPartNumber, parts_in}
 use Rattle.stamped.specs.Numbered.{numbered}
 use Rattle.step_objects.specs.declared.shared.PartKind.{PartKind}
 use Rattle.step_objects.specs.declared.shared.SharedPart.{SharedPart}
@@ -17,12 +15,12 @@ use Rattle.step_objects.specs.Objects.{shared_kind}
 
 -- a part of a declared map, with an operation of its own
 abbrev pub IsPartStep : List MapDecl → ObjectId → Op → Type 0
-IsPartStep maps (Shared map part) op = (part < PARTS) × Serves maps map (λ decl. IsShared decl.kind × IsSharedOp decl op)
+IsPartStep maps (Shared map part) op = IsPartNumber part × Serves maps map (λ decl. IsShared decl.kind × IsSharedOp decl op)
 IsPartStep maps object op = ⊥
 
 -- a part of a declared map
 abbrev pub IsPart : List MapDecl → ObjectId → Type 0
-IsPart maps (Shared map part) = (part < PARTS) × Serves maps map (λ decl. IsShared decl.kind)
+IsPart maps (Shared map part) = IsPartNumber part × Serves maps map (λ decl. IsShared decl.kind)
 IsPart maps object = ⊥
 
 -- an object, and what it is made for
@@ -32,11 +30,6 @@ Part = ObjectId × PartKind
 -- part p of map m
 abbrev pub part_at : ℕ → MapDecl → ℕ → Part
 part_at m decl p = (Shared (map_at m) p, record { map = map_at m; decl = decl })
-
--- how many parts a map of this kind has: none where it is an aggregation
-abbrev pub parts_in : MapKind → ℕ
-parts_in (Aggs kind) = 0
-parts_in kind = PARTS
 
 -- the parts of these maps, whose numbers begin at m, map by map
 abbrev pub parts_from : ℕ → List MapDecl → List Part

@@ -1,16 +1,15 @@
 // Parts of shared maps that no step was made at yet.
 ghost use Rattle.std.specs.Prelude.{◌≡◌, ◌≤◌, ◌^◌, [], ◌++◌, OnErr, OnOk, IfOk};
-ghost use Rattle.bt_core.specs.declared.limits.TheConstants.{PARTS as ALL_PARTS};
-ghost use Rattle.bt_core.specs.Kinds.{IsShared};
 ghost use Rattle.turn_lock.specs.History.{Each};
 ghost use Rattle.stamped.specs.Numbered.{numbered};
 ghost use Rattle.step_objects.specs.Objects.{SharedStands};
-ghost use Rattle.shared_maps.specs.Parts.{part_at, parts_in, parts_from, firsts_from, made_for};
+ghost use Rattle.map_ops.specs.Parts.{parts_in};
+ghost use Rattle.shared_maps.specs.Parts.{part_at, parts_from, firsts_from, made_for};
 
-use bt_core::limits::PARTS;
-use bt_core::map::{MapDecl, MapId, MapKind};
+use bt_core::map::{MapDecl, MapId};
 use bt_core::memory::{Memory, TryCopy};
 use bt_core::step::ObjectId;
+use map_ops::parts::parts_in;
 use std::alloc::Global;
 use step_objects::shared::SharedPart;
 
@@ -25,21 +24,6 @@ fn number(place: usize) -> Result<u32, Memory>
     Ok(u32::try_from(place)?)
 }
 
-// Adds all parts of the shared map with this number.
-fn push_parts(alloc: Global, objects: &mut Parts, number: u32, decl: &MapDecl) -> Result<(), Memory>
-    requires shared { IsShared decl.now.kind }
-    requires stand { Each (λ object. SharedStands object.1 []) objects.old.items }
-    ensures parts { OnOk result (made_for objects.new.items ≡ made_for objects.old.items ++ numbered (part_at number decl.now) 0 ALL_PARTS) }
-    ensures stand { OnOk result (Each (λ object. SharedStands object.1 []) objects.new.items) }
-{
-    for part in 0..PARTS {
-        let map = MapId(number);
-        let object = SharedPart::new(alloc, map, decl.try_copy(alloc)?)?;
-        objects.push((ObjectId::Shared { map, part }, object))?;
-    }
-    Ok(())
-}
-
 // Adds all parts of the map with this number, of which an aggregation has none.
 fn push_map(alloc: Global, objects: &mut Parts, number: u32, decl: &MapDecl) -> Result<(), Memory>
     requires stand { Each (λ object. SharedStands object.1 []) objects.old.items }
@@ -47,10 +31,12 @@ fn push_map(alloc: Global, objects: &mut Parts, number: u32, decl: &MapDecl) -> 
         made_for objects.old.items ++ numbered (part_at number decl.now) 0 (parts_in decl.now.kind)) }
     ensures stand { OnOk result (Each (λ object. SharedStands object.1 []) objects.new.items) }
 {
-    match decl.kind {
-        MapKind::Ints | MapKind::Strs => push_parts(alloc, objects, number, decl),
-        MapKind::Aggs(_) => Ok(()),
+    for part in 0..parts_in(decl.kind) {
+        let map = MapId(number);
+        let object = SharedPart::new(alloc, map, decl.try_copy(alloc)?)?;
+        objects.push((ObjectId::Shared { map, part }, object))?;
     }
+    Ok(())
 }
 
 /// The parts of all shared maps, which took no operation yet, map by map; and where the parts of each map

@@ -17,7 +17,8 @@ use Rattle.step_objects.specs.declared.shared.PartKind.{PartKind}
 use Rattle.step_objects.specs.declared.shared.SharedPart.{SharedPart}
 use Rattle.step_objects.specs.CpuTables.{map_at}
 use Rattle.step_objects.specs.Objects.{shared_kind, SharedStands, cpu_kind, CpuStands}
-use Rattle.shared_maps.specs.Parts.{part_at, parts_in, parts_from}
+use Rattle.map_ops.specs.Parts.{parts_in}
+use Rattle.shared_maps.specs.Parts.{part_at, parts_from}
 use Rattle.run_ends.specs.Closed.{AllStand}
 use Rattle.run_objects.specs.Worlds.{World}
 use Rattle.run_objects.proofs.ReadLemmas.{same_decl}
@@ -25,7 +26,7 @@ use Rattle.run_objects.specs.declared.closed.Closed.{Closed}
 use Rattle.run_objects.specs.Closed.{part_list, AreParts, MapsStand}
 use Rattle.run_objects.specs.Objects.{StandsAt, AllStandAt, IsPartOf}
 use Rattle.thread_run.specs.Closed.{object_of, part_id, part_kind, parts_by, PartsStand, TablesStand}
-use Rattle.thread_run.proofs.Objects.{all_parts, ids_map, kinds_map}
+use Rattle.thread_run.proofs.Objects.{ids_map, kinds_map}
 
 module _ {O Kind : Type 0} (kind_of : O → Kind) (stands_for : O → List Op → Type 0) (steps : List Step) where
   stand_long : (os : List ObjectId) (ks : List Kind) (cs : List (O × List Entry)) → AllStand kind_of stands_for steps os ks cs → length cs ≡ length os
@@ -115,7 +116,7 @@ module _ (steps : List Step) (m : ℕ) (decl : MapDecl) (rest : List MapDecl) (c
 
   first_parts : (w : World) → slice_get w.maps m ≡ Some decl → AreParts w steps m (take count (map object_of cs))
   first_parts w there = subst (AreParts w steps m) (sym (take-map object_of count cs)) (record {
-    count = λ one found shared. length-map (take count cs) object_of ∙ own_long ∙ all_parts decl.kind (subst (λ (d : MapDecl). IsShared d.kind) (same_decl one decl (slice_get w.maps m) found there) shared);
+    count = λ one found. length-map (take count cs) object_of ∙ own_long ∙ sym (ap (λ (d : MapDecl). parts_in d.kind) (same_decl one decl (slice_get w.maps m) found there));
     each = from_first shared_kind SharedStands steps (IsPartOf w.maps m) (Shared (map_at m)) of count (take count cs) (record { number = refl; declared = there }) own;
   })
 

@@ -3,7 +3,6 @@ use Rattle.std.proofs.Common.{◌≡◌, ℕ, zero, suc, ◌+◌, ◌<◌, ◌||
 use Rattle.std.specs.Prelude.{Option, Some, None, IsSomeAnd, slice_get}
 use Rattle.std.specs.List.Sorted.{IsPermutation}
 use Rattle.std.proofs.lemmas.List.{map-append, length-map}
-use Rattle.bt_core.specs.declared.limits.TheConstants.{PARTS}
 use Rattle.bt_core.specs.declared.map.MapDecl.{MapDecl}
 use Rattle.bt_core.specs.declared.map.MapKind.{MapKind}
 use Rattle.bt_core.specs.declared.map.MapKind.TheVariants.{Ints, Strs, Aggs}
@@ -34,7 +33,9 @@ use Rattle.step_objects.specs.declared.shared.SharedPart.{SharedPart}
 use Rattle.step_objects.specs.Clocks.{clock_kind, ClockStands}
 use Rattle.step_objects.specs.CpuTables.{map_at}
 use Rattle.step_objects.specs.Objects.{shared_kind, SharedStands, cpu_kind, CpuStands}
-use Rattle.shared_maps.specs.Parts.{part_at, parts_in, parts_from}
+use Rattle.map_ops.specs.Parts.{parts_in}
+use Rattle.map_ops.proofs.PartLaws.{shared_has_part}
+use Rattle.shared_maps.specs.Parts.{part_at, parts_from}
 use Rattle.side_locks.specs.Steps.{own_of_clock, reply_of_clock, own_of_out, reply_of_out}
 use Rattle.weave.specs.Order.{InOrder}
 use Rattle.weave.specs.Traces.{all_steps, AreTraces, IsHistory, HaveHistories}
@@ -73,11 +74,6 @@ some_is : (P : MapDecl → Type 0) (o : Option MapDecl) → IsSomeAnd o P → (d
 some_is P None h = absurd h
 some_is P (Some d) h = (d, refl, h)
 
-pub all_parts : (kind : MapKind) → IsShared kind → parts_in kind ≡ PARTS
-all_parts Ints h = refl
-all_parts Strs h = refl
-all_parts (Aggs k) h = absurd h
-
 pub ids_map : (m : ℕ) (d : MapDecl) (ds : List MapDecl) → map part_id (parts_from m (d ∷ ds)) ≡ map part_id (numbered (part_at m d) 0 (parts_in d.kind)) ++ map part_id (parts_from (m + 1) ds)
 ids_map m d ds = map-append part_id (numbered (part_at m d) 0 (parts_in d.kind)) (parts_from (m + 1) ds)
 
@@ -113,7 +109,7 @@ known world (Shared m p) op h =
     let d = some_is _ (slice_get (maps_in world) m.0) h.1 in
     among_left (map part_id (parts_from 0 (maps_in world))) (numbered Cpu 0 (world_cpus world + 1) ++ Clock ∷ Out ∷ []) (Shared m p)
     (ap (λ k. is_among (map part_id (parts_from 0 (maps_in world))) (Shared (map_at k) p)) (let q : m.0 ≡ 0 + m.0 = omega arith in q)
-    ∙ among_parts 0 (maps_in world) m.0 p d.0 d.1 (let e = all_parts d.0.kind d.2.0 in let lt = h.0 in omega (arith, e, lt)))
+    ∙ among_parts 0 (maps_in world) m.0 p d.0 d.1 (shared_has_part d.0.kind p d.2.0 h.0))
 known world (Cpu a) op h =
     among_right (map part_id (parts_from 0 (maps_in world))) (numbered Cpu 0 (world_cpus world + 1) ++ Clock ∷ Out ∷ []) (Cpu a)
     (among_left (numbered Cpu 0 (world_cpus world + 1)) (Clock ∷ Out ∷ []) (Cpu a)

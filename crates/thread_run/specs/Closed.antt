@@ -10,7 +10,8 @@ use Rattle.step_objects.specs.declared.cpu.CpuTable.{CpuTable}
 use Rattle.step_objects.specs.declared.shared.PartKind.{PartKind}
 use Rattle.step_objects.specs.declared.shared.SharedPart.{SharedPart}
 use Rattle.step_objects.specs.Objects.{shared_kind, SharedStands, cpu_kind, CpuStands}
-use Rattle.shared_maps.specs.Parts.{Part, parts_in}
+use Rattle.map_ops.specs.Parts.{parts_in}
+use Rattle.shared_maps.specs.Parts.{Part}
 use Rattle.run_ends.specs.Closed.{AllStand}
 
 abbrev pub part_id : Part → ObjectId

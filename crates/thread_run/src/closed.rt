@@ -2,14 +2,15 @@
 ghost use Rattle.std.specs.Prelude.{◌≡◌, ◌+◌, List, map, take, drop, IfOk, OnOk};
 ghost use Rattle.std.specs.Vec.Iter.{into_iter_items};
 ghost use Rattle.bt_core.specs.declared.step.Step.{Step};
-ghost use Rattle.shared_maps.specs.Parts.{parts_in, parts_from};
+ghost use Rattle.map_ops.specs.Parts.{parts_in};
+ghost use Rattle.shared_maps.specs.Parts.{parts_from};
 ghost use Rattle.run_objects.specs.Worlds.{World};
 ghost use Rattle.run_objects.specs.Closed.{part_list, MapsStand};
 ghost use Rattle.thread_run.specs.Closed.{object_of, parts_by, PartsStand, TablesStand};
 
-use bt_core::limits::PARTS;
 use bt_core::map::{MapDecl, MapKind};
 use bt_core::memory::Memory;
+use map_ops::parts::parts_in;
 use run_objects::closed::Closed;
 use std::alloc::Global;
 use std::vec::IntoIter;
@@ -28,16 +29,6 @@ fn objects_of<O: Drop>(alloc: Global, closed: Vec<(O, Joined)>) -> Result<Vec<O>
     Ok(list)
 }
 
-/// How many parts a map of this kind has.
-fn count_of(kind: MapKind) -> u32
-    ensures { result ≡ parts_in kind }
-{
-    match kind {
-        MapKind::Ints | MapKind::Strs => PARTS,
-        MapKind::Aggs(_) => 0,
-    }
-}
-
 /// The next of these parts, as many as a map of this kind has, or all that are left.
 fn next_parts(
     alloc: Global,
@@ -48,7 +39,7 @@ fn next_parts(
     ensures left { OnOk result (into_iter_items left.new ≡ drop (parts_in kind) (into_iter_items left.old)) }
 {
     let mut parts = Vec::new(alloc);
-    for _ in 0..count_of(kind) {
+    for _ in 0..parts_in(kind) {
         match left.next() {
             Some(part) => parts.push(part)?,
             None => {}

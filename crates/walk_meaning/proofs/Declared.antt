@@ -3,7 +3,7 @@ use Rattle.std.proofs.Common.{◌≡◌, ℕ, suc, ◌≤◌, ◌<◌, ◌++◌,
 use Rattle.std.specs.Prelude.{ℤ, ◌==◌, ◌&&◌, if◌then◌else◌, IsTrue, All, IsSomeAnd, slice_get, nat_le}
 use Rattle.std.specs.List.{list_all, list_any}
 use Rattle.std.proofs.lemmas.Bool.{and_parts, or_cases, eqb-true, leb-true}
-use Rattle.bt_core.specs.declared.limits.TheConstants.{KEY_PARTS, PARTS}
+use Rattle.bt_core.specs.declared.limits.TheConstants.{KEY_PARTS}
 use Rattle.bt_core.specs.declared.map.MapDecl.{MapDecl}
 use Rattle.bt_core.specs.declared.map.MapId.{MapId}
 use Rattle.bt_core.specs.declared.map.MapKind.{MapKind}
@@ -27,6 +27,7 @@ use Rattle.typed_tree.proofs.Summed.{summed_kind}
 use Rattle.std.specs.Str.{bytes_eq}
 use Rattle.walk_meaning.specs.declared.view.View.{View}
 use Rattle.map_ops.specs.Holders.{part, kind_in, CanSweep}
+use Rattle.map_ops.proofs.PartLaws.{part_below}
 use Rattle.walk_meaning.specs.Maps.{kind_in_body}
 use Rattle.walk_meaning.specs.Served.{IsServed, NamesShared, HoldsUnder, scope_in, least_length}
 
@@ -208,9 +209,6 @@ field_inside v setting f h s e =
     let p = and_parts (has_field v.body.now.layout f) (is_shape (shape_of_field f.kind) h) e in
     let inside : end_of f ≤ least_length v.body.now.layout = layout_inside f v.body.now.layout p.0 in
     omega (arith, inside, s.can.payload_is_long)
-
-pub part_below : (key : List Value) → part_of key < PARTS
-part_below key = omega arith
 
 -- ---- operations that can be made
 

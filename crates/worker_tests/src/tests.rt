@@ -4,7 +4,6 @@ use crate::script::new_scripted;
 use crate::told::told;
 use crate::workers::Order;
 use actor_plan::outcome::Outcome;
-use bt_core::limits::PARTS;
 use std::test::Fail;
 
 /// What a CPU does at each of its two events: what it sets the shared map to, what it adds at its own table, and that it prints.
@@ -61,7 +60,7 @@ fn is_made(made: &Made, ends: &[Option<Outcome>; 2], steps: &[usize; 2]) -> bool
         && ended(&made.second, ends[1])
         && made_first(&made.first, 0, steps[0])
         && made_first(&made.second, 1, steps[1])
-        && made.closed == (PARTS as usize, 3)
+        && made.closed == (8, 3)
 }
 
 #[test]

@@ -9,7 +9,8 @@ use Rattle.typed_tree.specs.Scope.{decl_of}
 use Rattle.map_ops.specs.Values.{number_of, text_of}
 use Rattle.walk_meaning.specs.Served.{Fits, IsServed, all_made}
 use Rattle.bt_walk.proofs.Binds.{Part-first, Part-next, Whole-next, Walked-next, Given-done, Looked-done, Changed-done, Number-done, Number-seen, Whole-yes, Whole-no, Part-yes, Part-no, Walked-yes, Walked-no, Lifted-walked}
-use Rattle.walk_meaning.proofs.Declared.{shared, summing, summed_here, valued, few_values, keyed, held, field_inside, part_below}
+use Rattle.map_ops.proofs.PartLaws.{part_below}
+use Rattle.walk_meaning.proofs.Declared.{shared, summing, summed_here, valued, few_values, keyed, held, field_inside}
 use Rattle.typed_tree.proofs.Summed.{summed_there}
 use Rattle.walk_meaning.proofs.TreeParts.{num_field_parts, str_field_parts, step_map_parts, one_fits, one_size}
 use Rattle.typed_tree.proofs.expr.AnyExpr.TheLaws.{the_size}

@@ -1,7 +1,8 @@
 use Rattle.std.proofs.Common.{rules, ◌≡◌, suc, ◌+◌, [], ◌∷◌, ◌++◌, length, drop, sym, ap, ◌∙◌, arith}
 use Rattle.std.proofs.Math.Seq.{drop-cons}
 use Rattle.stamped.specs.Numbered.{numbered}
-use Rattle.shared_maps.specs.Parts.{part_at, parts_in, parts_from, firsts_from, made_for}
+use Rattle.map_ops.specs.Parts.{parts_in}
+use Rattle.shared_maps.specs.Parts.{part_at, parts_from, firsts_from, made_for}
 use Rattle.shared_maps.proofs.PlaceLemmas.{parts_step, firsts_step, count_more}
 use Rattle.shared_maps.proofs.objects.new_parts.Goals as goal
 

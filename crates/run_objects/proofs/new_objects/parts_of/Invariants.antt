@@ -1,7 +1,7 @@
 use Rattle.std.proofs.Common.{◌≡◌, length}
 use Rattle.step_objects.specs.Objects.{shared_kind, SharedStands}
 use Rattle.run_objects.specs.News.{AreNew}
-use Rattle.run_objects.proofs.new_objects.all_parts.Given as goal
+use Rattle.run_objects.proofs.new_objects.parts_of.Given as goal
 
 abbrev pub invariant-loop : goal.invariant-loop
 invariant-loop l = record {

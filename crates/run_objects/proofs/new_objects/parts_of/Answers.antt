@@ -6,7 +6,7 @@ use Rattle.step_objects.specs.Objects.{shared_kind, SharedStands}
 use Rattle.run_objects.specs.declared.own.OwnObject.{OwnObject}
 use Rattle.run_objects.specs.News.{IsNew}
 use Rattle.run_objects.proofs.MoreLemmas.{all_more, count_more}
-use Rattle.run_objects.proofs.new_objects.all_parts.Goals as goal
+use Rattle.run_objects.proofs.new_objects.parts_of.Goals as goal
 
 pub loop-preserved : goal.loop-preserved
 loop-preserved c =

@@ -11,7 +11,7 @@ use Rattle.step_objects.specs.declared.shared.SharedPart.{SharedPart}
 use Rattle.step_objects.specs.CpuTables.{map_at}
 use Rattle.step_objects.specs.Objects.{shared_kind, SharedStands}
 use Rattle.shared_maps.specs.Parts.{Part, part_at, made_for}
-use Rattle.shared_maps.proofs.objects.push_parts.Goals as goal
+use Rattle.shared_maps.proofs.objects.push_map.Goals as goal
 
 -- one part more
 one_more : (first now new : List (ObjectId × SharedPart)) (x : ObjectId × SharedPart) (m p : ℕ) (decl : MapDecl) → new ≡ now ++ x ∷ [] → (let part : Part = (x.0, shared_kind x.1) in part) ≡ part_at m decl p

@@ -3,7 +3,7 @@ use Rattle.turn_lock.specs.History.{Each}
 use Rattle.stamped.specs.Numbered.{numbered}
 use Rattle.step_objects.specs.Objects.{SharedStands}
 use Rattle.shared_maps.specs.Parts.{made_for, part_at}
-use Rattle.shared_maps.proofs.objects.push_parts.Given as goal
+use Rattle.shared_maps.proofs.objects.push_map.Given as goal
 
 abbrev pub invariant-loop-part : goal.invariant-loop-part
 invariant-loop-part l = record {
