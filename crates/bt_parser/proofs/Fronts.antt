@@ -14,12 +14,22 @@ use Rattle.bt_grammar.specs.Trees.{kind_bytes}
 use Rattle.bt_grammar.proofs.KindClasses.{word_is_word}
 use Rattle.bt_parser.specs.ClassLists.{classes_of}
 use Rattle.bt_core.specs.declared.place.Place.{Place}
-use Rattle.bt_parser.specs.Mirror.{class_at, front_place, is_word_kind, operator_at, when, word_form}
+use Rattle.bt_parser.specs.Mirror.{class_at, front_place, is_word_kind, named_form, operator_at, when, word_form}
 use Rattle.bt_parser.proofs.WordKinds.{word_kinds}
 
 pub front_class : (rest now : List Token) (classes : List Class) (d : Class) → classes ≡ classes_of rest → rest ≡ now → 1 ≤ length classes → Some (get_or classes 0 d) ≡ class_at (items now)
 front_class [] now classes d e v some = let h : length classes ≡ 0 = ap length e in absurd (omega arith)
 front_class (t ∷ rest) now classes d e v some = ap (λ z. Some (get_or z 0 d)) e ∙ ap (λ z. class_at (items z)) v
+
+-- where there is a class, there is a token
+pub front_there : (rest now : List Token) (classes : List Class) → classes ≡ classes_of rest → rest ≡ now → 1 ≤ length classes → 0 < length now
+front_there [] now classes e v some = let h : length classes ≡ 0 = ap length e in absurd (omega arith)
+front_there (t ∷ rest) now classes e v some = let h : length (t ∷ rest) ≡ length now = ap length v in omega arith
+
+pub second_there : (rest now : List Token) (classes : List Class) → classes ≡ classes_of rest → rest ≡ now → 2 ≤ length classes → 1 < length now
+second_there [] now classes e v some = let h : length classes ≡ 0 = ap length e in absurd (omega arith)
+second_there (t ∷ []) now classes e v some = let h : length classes ≡ 1 = ap length e in absurd (omega arith)
+second_there (t ∷ u ∷ rest) now classes e v some = let h : length (t ∷ u ∷ rest) ≡ length now = ap length v in omega arith
 
 pub no_front : (rest now : List Token) (classes : List Class) → classes ≡ classes_of rest → rest ≡ now → length classes < 1 → None ≡ class_at (items now)
 no_front [] now classes e v none = ap (λ z. class_at (items z)) v
@@ -93,3 +103,15 @@ a_word (u ∷ rest) now t word bytes place left v some e k b p l =
     let same_place : u.place ≡ place = ap (λ z. front_place (items z)) v ∙ sym p in
     let same_left : items rest ≡ left = ap (λ z. rest_of (items z)) v ∙ sym l in
     subst (λ z. read reads word_form (items z) ≡ Done (record { bytes = bytes; place = place }) left) v (rw is_one (cc (same_place, same_left, same_bytes)))
+
+-- a token of the class is answered with its bytes and its place
+pub a_named : (rest now : List Token) (t : Token) (k : Class) (bytes : List ℕ) (place : Place) (left : List Item) → rest ≡ now → 1 ≤ length rest → t ≡ get_or rest 0 t
+    → is k (class_of t.kind) ≡ true → bytes ≡ kind_bytes t.kind → place ≡ front_place (items now) → left ≡ rest_of (items now)
+    → read reads (named_form k) (items now) ≡ Done (record { bytes = bytes; place = place }) left
+a_named [] now t k bytes place left v some e h b p l = absurd (omega arith)
+a_named (u ∷ rest) now t k bytes place left v some e h b p l =
+    let is_one : is k (class_of u.kind) ≡ true = ap (λ (z : Token). is k (class_of z.kind)) (sym e) ∙ h in
+    let same_bytes : kind_bytes u.kind ≡ bytes = ap (λ (z : Token). kind_bytes z.kind) (sym e) ∙ sym b in
+    let same_place : u.place ≡ place = ap (λ z. front_place (items z)) v ∙ sym p in
+    let same_left : items rest ≡ left = ap (λ z. rest_of (items z)) v ∙ sym l in
+    subst (λ z. read reads (named_form k) (items z) ≡ Done (record { bytes = bytes; place = place }) left) v (rw is_one (cc (same_place, same_left, same_bytes)))

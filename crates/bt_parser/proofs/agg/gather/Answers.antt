@@ -1,13 +1,17 @@
-use Rattle.std.proofs.Common.{rules}
+use Rattle.std.proofs.Common.{refl}
 use Rattle.bt_grammar.specs.Tokens.{items}
+use Rattle.bt_parser.proofs.Mirrored.{on_err, refused_reads}
 use Rattle.bt_parser.proofs.Stated.{gather_is}
 use Rattle.bt_parser.proofs.agg.gather.Goals as goal
 
 pub returns-in_default-clause-reads : goal.returns-in_default-clause-reads
-returns-in_default-clause-reads c = rw (gather_is (items c.args.tokens.now)) (search rules)
+returns-in_default-clause-reads c = λ _. rw (gather_is (items c.args.tokens.now), ← c.in_default.ensures.class) refl
 
 pub returns-in_err-number-clause-reads : goal.returns-in_err-number-clause-reads
-returns-in_err-number-clause-reads c = rw (gather_is (items c.args.tokens.now)) (search rules)
+returns-in_err-number-clause-reads c = refused_reads _ _ _ _ c.from_residual.ensures.1 (λ other. rw (gather_is (items c.args.tokens.now), ← c.in-Some.ensures.class, ← c.skip-place.ensures.items, ← c.skip-place.ensures.place, c.in_err-number.ensures.reads other) refl)
+
+pub returns-in_err-number-clause-shorter : goal.returns-in_err-number-clause-shorter
+returns-in_err-number-clause-shorter c = on_err _ _ c.from_residual.ensures.0
 
 pub returns-clause-reads : goal.returns-clause-reads
-returns-clause-reads c = rw (gather_is (items c.args.tokens.now)) (search rules)
+returns-clause-reads c = rw (gather_is (items c.args.tokens.now), ← c.in-Some.ensures.class, ← c.skip-place.ensures.items, ← c.skip-place.ensures.place, c.in_ok-number.ensures.reads) refl

@@ -1,13 +1,12 @@
-use Rattle.std.proofs.Common.{rules}
 use Rattle.bt_grammar.specs.Tokens.{items}
 use Rattle.bt_parser.proofs.Stated.{after_map_is}
 use Rattle.bt_parser.proofs.assign.after_map.Goals as goal
 
 pub returns-then-not-sees-clause-reads : goal.returns-then-not-sees-clause-reads
-returns-then-not-sees-clause-reads c = rw (after_map_is c.args.map (items c.args.tokens.now)) (search rules)
+returns-then-not-sees-clause-reads c = rw (after_map_is c.args.map (items c.args.tokens.now), ← c.if-not-sees.ensures.class) c.update.ensures.reads
 
 pub returns-then-begins_aggregation-clause-reads : goal.returns-then-begins_aggregation-clause-reads
-returns-then-begins_aggregation-clause-reads c = rw (after_map_is c.args.map (items c.args.tokens.now)) (search rules)
+returns-then-begins_aggregation-clause-reads c = rw (after_map_is c.args.map (items c.args.tokens.now), ← c.if-not-sees.ensures.class, ← c.skip.ensures.items, ← c.if-begins_aggregation.ensures) c.set_agg.ensures.reads
 
 pub returns-clause-reads : goal.returns-clause-reads
-returns-clause-reads c = rw (after_map_is c.args.map (items c.args.tokens.now)) (search rules)
+returns-clause-reads c = rw (after_map_is c.args.map (items c.args.tokens.now), ← c.if-not-sees.ensures.class, ← c.skip.ensures.items, ← c.if-begins_aggregation.ensures) c.assign.ensures.reads

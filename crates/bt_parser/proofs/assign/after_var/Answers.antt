@@ -1,10 +1,9 @@
-use Rattle.std.proofs.Common.{rules}
 use Rattle.bt_grammar.specs.Tokens.{items}
 use Rattle.bt_parser.proofs.Stated.{after_var_is}
 use Rattle.bt_parser.proofs.assign.after_var.Goals as goal
 
 pub returns-then-not-sees-clause-reads : goal.returns-then-not-sees-clause-reads
-returns-then-not-sees-clause-reads c = rw (after_var_is c.args.var (items c.args.tokens.now)) (search rules)
+returns-then-not-sees-clause-reads c = rw (after_var_is c.args.var (items c.args.tokens.now), ← c.if-not-sees.ensures.class) c.update.ensures.reads
 
 pub returns-clause-reads : goal.returns-clause-reads
-returns-clause-reads c = rw (after_var_is c.args.var (items c.args.tokens.now)) (search rules)
+returns-clause-reads c = rw (after_var_is c.args.var (items c.args.tokens.now), ← c.if-not-sees.ensures.class, ← c.skip.ensures.items) c.assign.ensures.reads

@@ -1,16 +1,26 @@
-use Rattle.std.proofs.Common.{rules}
+use Rattle.std.proofs.Common.{refl, rules}
 use Rattle.bt_grammar.specs.Tokens.{items}
+use Rattle.bt_parser.proofs.Mirrored.{on_err, refused_reads}
 use Rattle.bt_parser.proofs.Stated.{print_is}
 use Rattle.bt_parser.proofs.call.print.Goals as goal
 
 pub returns-in_err-expect-clause-reads : goal.returns-in_err-expect-clause-reads
-returns-in_err-expect-clause-reads c = rw (print_is (items c.args.tokens.now)) (search rules)
+returns-in_err-expect-clause-reads c = refused_reads _ _ _ _ c.from_residual.ensures.1 (λ other. rw (print_is (items c.args.tokens.now), c.in_err-expect.ensures.reads other) refl)
+
+pub returns-in_err-expect-clause-shorter : goal.returns-in_err-expect-clause-shorter
+returns-in_err-expect-clause-shorter c = on_err _ _ c.from_residual.ensures.0
 
 pub returns-in_err-map-clause-reads : goal.returns-in_err-map-clause-reads
-returns-in_err-map-clause-reads c = rw (print_is (items c.args.tokens.now)) (search rules)
+returns-in_err-map-clause-reads c = refused_reads _ _ _ _ c.from_residual-in_err-map.ensures.1 (λ other. rw (print_is (items c.args.tokens.now), c.in_ok-expect.ensures.reads, c.in_err-map.ensures.reads other) refl)
+
+pub returns-in_err-map-clause-shorter : goal.returns-in_err-map-clause-shorter
+returns-in_err-map-clause-shorter c = on_err _ _ c.from_residual-in_err-map.ensures.0
 
 pub returns-in_err-top-clause-reads : goal.returns-in_err-top-clause-reads
-returns-in_err-top-clause-reads c = rw (print_is (items c.args.tokens.now)) (search rules)
+returns-in_err-top-clause-reads c = refused_reads _ _ _ _ c.from_residual-in_err-top.ensures.1 (λ other. rw (print_is (items c.args.tokens.now), c.in_ok-expect.ensures.reads, c.in_ok-map.ensures.reads, c.in_err-top.ensures.reads other) refl)
+
+pub returns-in_err-top-clause-shorter : goal.returns-in_err-top-clause-shorter
+returns-in_err-top-clause-shorter c = on_err _ _ c.from_residual-in_err-top.ensures.0
 
 pub returns-clause-reads : goal.returns-clause-reads
-returns-clause-reads c = rw (print_is (items c.args.tokens.now)) (search rules)
+returns-clause-reads c = rw (print_is (items c.args.tokens.now), c.in_ok-expect.ensures.reads, c.in_ok-map.ensures.reads, c.in_ok-top.ensures.reads) (search rules)

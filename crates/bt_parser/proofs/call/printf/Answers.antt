@@ -1,16 +1,26 @@
-use Rattle.std.proofs.Common.{rules}
+use Rattle.std.proofs.Common.{refl}
 use Rattle.bt_grammar.specs.Tokens.{items}
+use Rattle.bt_parser.proofs.Mirrored.{on_err, refused_reads}
 use Rattle.bt_parser.proofs.Stated.{printf_is}
 use Rattle.bt_parser.proofs.call.printf.Goals as goal
 
 pub returns-in_err-expect-clause-reads : goal.returns-in_err-expect-clause-reads
-returns-in_err-expect-clause-reads c = rw (printf_is (items c.args.tokens.now)) (search rules)
+returns-in_err-expect-clause-reads c = refused_reads _ _ _ _ c.from_residual.ensures.1 (λ other. rw (printf_is (items c.args.tokens.now), c.in_err-expect.ensures.reads other) refl)
+
+pub returns-in_err-expect-clause-shorter : goal.returns-in_err-expect-clause-shorter
+returns-in_err-expect-clause-shorter c = on_err _ _ c.from_residual.ensures.0
 
 pub returns-in_err-bytes-clause-reads : goal.returns-in_err-bytes-clause-reads
-returns-in_err-bytes-clause-reads c = rw (printf_is (items c.args.tokens.now)) (search rules)
+returns-in_err-bytes-clause-reads c = refused_reads _ _ _ _ c.from_residual-in_err-bytes.ensures.1 (λ other. rw (printf_is (items c.args.tokens.now), c.in_ok-expect.ensures.reads, c.in_err-bytes.ensures.reads other) refl)
+
+pub returns-in_err-bytes-clause-shorter : goal.returns-in_err-bytes-clause-shorter
+returns-in_err-bytes-clause-shorter c = on_err _ _ c.from_residual-in_err-bytes.ensures.0
 
 pub returns-in_err-values-clause-reads : goal.returns-in_err-values-clause-reads
-returns-in_err-values-clause-reads c = rw (printf_is (items c.args.tokens.now)) (search rules)
+returns-in_err-values-clause-reads c = refused_reads _ _ _ _ c.from_residual-in_err-values.ensures.1 (λ other. rw (printf_is (items c.args.tokens.now), c.in_ok-expect.ensures.reads, c.in_ok-bytes.ensures.reads, c.in_err-values.ensures.reads other) refl)
+
+pub returns-in_err-values-clause-shorter : goal.returns-in_err-values-clause-shorter
+returns-in_err-values-clause-shorter c = on_err _ _ c.from_residual-in_err-values.ensures.0
 
 pub returns-clause-reads : goal.returns-clause-reads
-returns-clause-reads c = rw (printf_is (items c.args.tokens.now)) (search rules)
+returns-clause-reads c = rw (printf_is (items c.args.tokens.now), c.in_ok-expect.ensures.reads, c.in_ok-bytes.ensures.reads, c.in_ok-values.ensures.reads) refl

@@ -1,10 +1,14 @@
-use Rattle.std.proofs.Common.{rules}
+use Rattle.std.proofs.Common.{refl, rules}
 use Rattle.bt_grammar.specs.Tokens.{items}
+use Rattle.bt_parser.proofs.Mirrored.{on_err, refused_reads}
 use Rattle.bt_parser.proofs.Stated.{whole_map_is}
 use Rattle.bt_parser.proofs.call.whole_map.Goals as goal
 
 pub returns-in_err-bytes-clause-reads : goal.returns-in_err-bytes-clause-reads
-returns-in_err-bytes-clause-reads c = rw (whole_map_is (items c.args.tokens.now)) (search rules)
+returns-in_err-bytes-clause-reads c = refused_reads _ _ _ _ c.from_residual.ensures.1 (λ other. rw (whole_map_is (items c.args.tokens.now), c.in_err-bytes.ensures.reads other) refl)
+
+pub returns-in_err-bytes-clause-shorter : goal.returns-in_err-bytes-clause-shorter
+returns-in_err-bytes-clause-shorter c = on_err _ _ c.from_residual.ensures.0
 
 pub returns-clause-reads : goal.returns-clause-reads
-returns-clause-reads c = rw (whole_map_is (items c.args.tokens.now)) (search rules)
+returns-clause-reads c = rw (whole_map_is (items c.args.tokens.now), c.in_ok-bytes.ensures.reads) (search rules)

@@ -1,0 +1,12 @@
+use Rattle.std.proofs.Common.{refl}
+use Rattle.bt_parser.proofs.Mirrored.{on_err, refused_reads}
+use Rattle.bt_parser.proofs.assign.set_agg.Goals as goal
+
+pub returns-in_err-agg-clause-reads : goal.returns-in_err-agg-clause-reads
+returns-in_err-agg-clause-reads c = refused_reads _ _ _ _ c.from_residual.ensures.1 (λ other. rw (c.in_err-agg.ensures.reads other) refl)
+
+pub returns-in_err-agg-clause-shorter : goal.returns-in_err-agg-clause-shorter
+returns-in_err-agg-clause-shorter c = on_err _ _ c.from_residual.ensures.0
+
+pub returns-clause-reads : goal.returns-clause-reads
+returns-clause-reads c = rw c.in_ok-agg.ensures.reads refl

@@ -1,0 +1,12 @@
+use Rattle.std.proofs.Common.{refl, rules}
+use Rattle.bt_parser.proofs.Mirrored.{on_err, refused_reads}
+use Rattle.bt_parser.proofs.call.delete_key.Goals as goal
+
+pub returns-in_err-key-clause-reads : goal.returns-in_err-key-clause-reads
+returns-in_err-key-clause-reads c = refused_reads _ _ _ _ c.from_residual.ensures.1 (λ other. rw (c.in_err-key.ensures.reads other) refl)
+
+pub returns-in_err-key-clause-shorter : goal.returns-in_err-key-clause-shorter
+returns-in_err-key-clause-shorter c = on_err _ _ c.from_residual.ensures.0
+
+pub returns-clause-reads : goal.returns-clause-reads
+returns-clause-reads c = rw c.in_ok-key.ensures.reads (search rules)
