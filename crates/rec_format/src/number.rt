@@ -21,6 +21,8 @@ pub(crate) fn u16_at(bytes: &[u8]) -> Option<(u16, &[u8])>
 pub(crate) fn sized16_at(bytes: &[u8]) -> Option<(&[u8], &[u8])>
     ensures { option_map (λ piece. (piece.0.now, piece.1.now)) result ≡ sized_at w16 bytes.now }
 {
-    let (len, bytes) = u16_at(bytes)?;
+    let Some((len, bytes)) = u16_at(bytes) else {
+        return None;
+    };
     bytes_at(bytes, len as usize)
 }

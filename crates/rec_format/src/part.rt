@@ -37,11 +37,21 @@ pub(crate) struct CpuHead {
 pub(crate) fn header_at(bytes: &[u8]) -> Option<(Header<'_>, &[u8])>
     ensures { option_map (λ part. (header_part part.0, part.1.now)) result ≡ header_at bytes.now }
 {
-    let (magic, bytes) = bytes_at(bytes, 8)?;
-    let (cpus, bytes) = u32_at(bytes)?;
-    let (formats, bytes) = u32_at(bytes)?;
-    let (start, bytes) = u64_at(bytes)?;
-    let (end, rest) = u64_at(bytes)?;
+    let Some((magic, bytes)) = bytes_at(bytes, 8) else {
+        return None;
+    };
+    let Some((cpus, bytes)) = u32_at(bytes) else {
+        return None;
+    };
+    let Some((formats, bytes)) = u32_at(bytes) else {
+        return None;
+    };
+    let Some((start, bytes)) = u64_at(bytes) else {
+        return None;
+    };
+    let Some((end, rest)) = u64_at(bytes) else {
+        return None;
+    };
     let header = Header {
         magic,
         cpus,
@@ -57,8 +67,12 @@ pub(crate) fn header_at(bytes: &[u8]) -> Option<(Header<'_>, &[u8])>
 pub(crate) fn format_at(bytes: &[u8]) -> Option<(FormatText<'_>, &[u8])>
     ensures { option_map (λ part. (format_part part.0, part.1.now)) result ≡ format_at bytes.now }
 {
-    let (system, bytes) = sized16_at(bytes)?;
-    let (text, rest) = sized32_at(bytes)?;
+    let Some((system, bytes)) = sized16_at(bytes) else {
+        return None;
+    };
+    let Some((text, rest)) = sized32_at(bytes) else {
+        return None;
+    };
     Some((FormatText { system, text }, rest))
 }
 
@@ -67,8 +81,12 @@ pub(crate) fn format_at(bytes: &[u8]) -> Option<(FormatText<'_>, &[u8])>
 pub(crate) fn cpu_at(bytes: &[u8]) -> Option<(CpuHead, &[u8])>
     ensures { option_map (λ part. (cpu_part part.0, part.1.now)) result ≡ cpu_at bytes.now }
 {
-    let (number, bytes) = u32_at(bytes)?;
-    let (entries, rest) = u32_at(bytes)?;
+    let Some((number, bytes)) = u32_at(bytes) else {
+        return None;
+    };
+    let Some((entries, rest)) = u32_at(bytes) else {
+        return None;
+    };
     Some((CpuHead { number, entries }, rest))
 }
 
@@ -76,7 +94,9 @@ pub(crate) fn cpu_at(bytes: &[u8]) -> Option<(CpuHead, &[u8])>
 fn plain_at(bytes: &[u8]) -> Option<(EntryBytes<'_>, &[u8])>
     ensures { option_map (λ part. (entry_part part.0, part.1.now)) result ≡ plain_at bytes.now }
 {
-    let (event, rest) = event_at(bytes)?;
+    let Some((event, rest)) = event_at(bytes) else {
+        return None;
+    };
     Some((EntryBytes::Event(event), rest))
 }
 

@@ -27,9 +27,15 @@ use tracefs_format::reading::read_layout;
 /// system and name.
 ///
 /// Contracts see the list of the formats.
-#[derive(Drop)]
 pub(crate) struct FormatTable {
     tables: Tables,
+}
+
+// Written out, so that it is one call wherever such a value is let go.
+impl Drop for FormatTable {
+    fn drop(self) {
+        let Self { tables: _ } = self;
+    }
 }
 
 /// What a table of formats has. It does not fit together where a format was refused.
@@ -81,16 +87,21 @@ impl FormatTable {
     pub fn find(&self, id: u16) -> Option<(u32, &Format)>
         ensures { option_map (λ found. (found.0, found.1.now)) result ≡ format_with id self.now }
     {
-        let place = *self.tables.places.get(&id)?;
-        let format = self.tables.formats.get(place as usize)?;
-        Some((place, format))
+        let Some(place) = self.tables.places.get(&id) else {
+            return None;
+        };
+        let Some(format) = self.tables.formats.get(*place as usize) else {
+            return None;
+        };
+        Some((*place, format))
     }
 
     /// The formats in their order.
     pub fn into_formats(self) -> Items<Format>
         ensures { result ≡ self }
     {
-        self.tables.formats
+        let FormatTable { tables } = self;
+        tables.formats
     }
 }
 
@@ -100,7 +111,8 @@ impl Tables {
         requires fits { IsTable self.old.formats self.old.places self.old.names }
         requires few { length self.old.formats < 2 ^ 32 }
         requires short { length part.text.now < 2 ^ 32 }
-        ensures answer { Answers result (λ _. AddsFormat self.old.formats (format_part part.entry) self.new.formats) (IsFormatFault self.old.formats (format_part part.entry)) }
+        ensures answer { Answers result (λ _. AddsFormat self.old.formats (format_part part.entry) self.new.formats)
+            (IsFormatFault self.old.formats (format_part part.entry)) }
         ensures table { OnOk result (IsTable self.new.formats self.new.places self.new.names) }
     {
         let format = new_format(alloc, self.formats.len() as u32, part)?;

@@ -23,6 +23,21 @@ read_tracks-requires c =
       suffix = rest_more file c.in_ok-header.rest.now _ c.in_ok-table.rest.now behind c.in_ok-table.ensures.spelled;
     }
 
+pub returns-in_err-header-clause-answer : goal.returns-in_err-header-clause-answer
+returns-in_err-header-clause-answer c =
+    let p = err_from_is_err_and c.from_residual.result c.from_residual.ensures.1 in
+    rw (p.1, p.2) (λ other. inl (c.in_err-header.ensures other))
+
+pub returns-in_err-table-clause-answer : goal.returns-in_err-table-clause-answer
+returns-in_err-table-clause-answer c =
+    let p = err_from_is_err_and c.from_residual-in_err-table.result c.from_residual-in_err-table.ensures.1 in
+    rw (p.1, p.2) (λ other. inr (inl (record {
+      header = header_part c.in_ok-header.header;
+      rest = c.in_ok-header.rest.now;
+      has_header = c.in_ok-header.ensures;
+      fails = c.in_err-table.ensures other;
+    })))
+
 pub returns-in_err-cpus-clause-answer : goal.returns-in_err-cpus-clause-answer
 returns-in_err-cpus-clause-answer c =
     let h = c.in_ok-header.header in

@@ -1,13 +1,25 @@
-use Rattle.std.proofs.Common.{◌≡◌, ℕ, List, ◌<◌, length, get_or, None, Some, Option, ap, sym, ◌∙◌, arith}
+use Rattle.std.proofs.Common.{◌≡◌, ℕ, List, ◌++◌, ◌<◌, length, get_or, None, Some, Option, ap, sym, ◌∙◌, arith}
 use Rattle.std.specs.List.{slice_get}
+use Rattle.std.proofs.lemmas.List.{take_all}
 use Rattle.std.proofs.lemmas.Option.{get_or_from_slice_get, slice_get-get_or}
 use Rattle.recordings.specs.declared.recording.Entry.{Entry}
 use Rattle.recordings.specs.declared.recording.Entry.TheVariants as entry
-use Rattle.recordings.specs.EntryParts.{part_of_entry, entry_bytes}
+use Rattle.event_layout.proofs.Lists.{all_at}
+use Rattle.recordings.specs.Entries.{entries_bytes}
+use Rattle.recordings.specs.EntryParts.{part_of_entry, IsEntryPart, entry_bytes, entries}
 use Rattle.recordings.specs.InFile.{entry_seen}
 use Rattle.rec_format.proofs.WriteLaws.{written_more}
 use Rattle.rec_format.proofs.writing.push_entries.Goals as goal
 use Rattle.rec_format.proofs.writing.push_entries.Goals.{in-Some+in_ok-push_entry, in_default}
+
+pub push_entry-requires : goal.push_entry-requires
+push_entry-requires c =
+    all_at (λ (e : Entry). IsEntryPart c.args.marks (part_of_entry e)) c.args.entries.now c.loop-place.place (entry_seen c.in-Some.entry) c.requires (sym c.in-Some.ensures)
+
+pub returns : goal.returns
+returns c =
+    c.loop-place.invariant
+    ∙ ap (λ (l : List Entry). c.args.bytes.now.items ++ entries_bytes (entries c.args.marks) l) (take_all c.loop-place.place c.args.entries.now (omega (arith, c.loop-place-test.false, c.len-place-end.ensures)))
 
 pub loop-place-preserved : goal.loop-place-preserved
 loop-place-preserved c =
