@@ -15,7 +15,6 @@ use Rattle.bt_core.specs.declared.step.Op.TheVariants as ops
 use Rattle.bt_core.specs.declared.step.Reply.{Reply}
 use Rattle.bt_core.specs.declared.value.Value.{Value}
 use Rattle.bt_core.specs.declared.value.Value.TheVariants.{Int, Str}
-use Rattle.bt_core.specs.KeyBytes.{part_of}
 use Rattle.bt_core.specs.Kinds.{HasShape, IsOfShape, IsOfKind, IsShared, IsAggregation}
 use Rattle.bt_core.specs.Ports.{Setting, CanStep}
 use Rattle.typed_tree.specs.Scope.{same_shapes, same_kind, is_declared, is_shared, is_summed, is_summed_kind, is_there, is_agg, kind_of_shape}

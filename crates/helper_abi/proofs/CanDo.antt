@@ -1,5 +1,5 @@
 -- What the port can do for a helper whose arguments are in range.
-use Rattle.std.proofs.Common.{◌≡◌, ℕ, zero, suc, ◌<◌, ◌≤◌, ◌^◌, List, [], ◌∷◌, length, Option, Some, None, Bool, true, false, cond, refl, sym, ap, ◌∙◌, subst, arith}
+use Rattle.std.proofs.Common.{◌≡◌, ℕ, zero, suc, ◌<◌, ◌≤◌, ◌^◌, List, [], ◌∷◌, length, Option, Some, None, Bool, true, false, cond, refl, sym, ap, ◌∙◌, subst}
 use Rattle.std.specs.Prelude.{ℤ, not, IsTrue, IsSomeAnd, slice_get, nat_le, nat_lt}
 use Rattle.std.specs.List.{list_all}
 use Rattle.std.specs.Option.{option_and_then}
@@ -14,7 +14,6 @@ use Rattle.bt_core.specs.declared.step.Op.TheVariants.{Get, Set, Delete, Add}
 use Rattle.bt_core.specs.declared.value.Value.{Value}
 use Rattle.bt_core.specs.declared.value.Value.TheVariants.{Int, Str}
 use Rattle.bt_core.specs.Kinds.{HasShape, IsOfShape, IsOfKind, IsShared, IsAggregation}
-use Rattle.bt_core.specs.KeyBytes.{part_of}
 use Rattle.bt_core.specs.Ports.{Setting, CanStep, IsSharedOp}
 use Rattle.bpf_insn.specs.Regions.{is_in_frame}
 use Rattle.typed_tree.specs.Scope.{is_agg, is_summed_kind, is_fine_decl, is_fine_kind}

@@ -295,7 +295,7 @@ module _ (objects : Objects) (op : Op) (floor : ℕ) where
     parts_of w steps st own = subst (PartsStand w steps m.0) (sym at) (st.shared m.0 one (map_within w steps st own))
 
     part_within : (w : World) (steps : List Step) (st : Stand w steps objects) (own : IsOwn w (Shared m p) op) → p < length one.parts.items
-    part_within w steps st own = let d = decl_there w steps st own in let c = (parts_of w steps st own).count d.0 d.1 in let lt = shared_has_part d.0.kind _ d.2.0 own.0 in omega arith
+    part_within w steps st own = let d = decl_there w steps st own in let c = (parts_of w steps st own).count d.0 d.1 in let lt = shared_has_part d.0.kind _ d.2 own.0 in omega arith
 
     map_count_next : (w : World) (steps : List Step) → Stand w steps objects → length next.shared.items ≡ length w.maps
     map_count_next w steps st = ap length set ∙ length-set objects.shared.items m.0 other ∙ st.map_count

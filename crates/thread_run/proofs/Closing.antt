@@ -8,7 +8,6 @@ use Rattle.bt_core.specs.declared.step.ObjectId.{ObjectId}
 use Rattle.bt_core.specs.declared.step.ObjectId.TheVariants.{Shared, Cpu}
 use Rattle.bt_core.specs.declared.step.Op.{Op}
 use Rattle.bt_core.specs.declared.step.Step.{Step}
-use Rattle.bt_core.specs.Kinds.{IsShared}
 use Rattle.turn_lock.specs.declared.entry.Entry.{Entry}
 use Rattle.stamped.specs.Numbered.{numbered}
 use Rattle.stamped.proofs.NumberedLemmas.{numbered_length, numbered_map}

@@ -4,14 +4,11 @@ use Rattle.std.specs.Prelude.{Option, Some, None, IsSomeAnd, slice_get}
 use Rattle.std.specs.List.Sorted.{IsPermutation}
 use Rattle.std.proofs.lemmas.List.{map-append, length-map}
 use Rattle.bt_core.specs.declared.map.MapDecl.{MapDecl}
-use Rattle.bt_core.specs.declared.map.MapKind.{MapKind}
-use Rattle.bt_core.specs.declared.map.MapKind.TheVariants.{Ints, Strs, Aggs}
 use Rattle.bt_core.specs.declared.step.ObjectId.{ObjectId}
 use Rattle.bt_core.specs.declared.step.ObjectId.TheVariants.{Shared, Cpu, Clock, Out}
 use Rattle.bt_core.specs.declared.step.Op.{Op}
 use Rattle.bt_core.specs.declared.step.Reply.{Reply}
 use Rattle.bt_core.specs.declared.step.Step.{Step}
-use Rattle.bt_core.specs.Kinds.{IsShared}
 use Rattle.bt_core.specs.Ports.{CanStep, IsSharedOp, IsTableOp}
 use Rattle.bt_core.specs.Steps.{is_same_object}
 use Rattle.bt_core.proofs.StepLists.{is_same_object-refl}
