@@ -21,7 +21,7 @@ use Rattle.bt_types.specs.Exits.{kind_exits_layer, block_exits_layer, stmt_exits
 use Rattle.bt_types.specs.Script.{maps_of}
 use Rattle.bt_meaning.specs.Totals.{IsAggregationOnly, Keeps}
 use Rattle.typed_tree.specs.Bodies.{tree_parts}
-use Rattle.typed_tree.specs.Parts.{Part, AggOf, Cleared, Zeroed, Jumped}
+use Rattle.typed_tree.specs.Parts.{TreePart, AggOf, Cleared, Zeroed, Jumped}
 use Rattle.typed_tree.specs.declared.body.TypedBody.{TypedBody}
 use Rattle.typed_tree.specs.declared.script.Typed.{Typed}
 use Rattle.expr_types.specs.Mentions.{Word, MapWord, ClearWord, ZeroWord, JumpWord}
@@ -59,14 +59,14 @@ is_kept (ZeroWord name) = false
 is_kept (JumpWord jump) = false
 is_kept w = true
 
-keeps : (t : Titles) (p : Part) → is_kept (word_of t p) ≡ true → Keeps p
+keeps : (t : Titles) (p : TreePart) → is_kept (word_of t p) ≡ true → Keeps p
 keeps t (AggOf number keys) h = absurd cc
 keeps t (Cleared number) h = absurd cc
 keeps t (Zeroed number) h = absurd cc
 keeps t (Jumped jump inside) h = absurd cc
 keeps t p h = tt
 
-all_keep : (t : Titles) (ps : List Part) → AllByRecursion (λ (w : Word). is_kept w ≡ true) (words_by t ps) → AllByRecursion Keeps ps
+all_keep : (t : Titles) (ps : List TreePart) → AllByRecursion (λ (w : Word). is_kept w ≡ true) (words_by t ps) → AllByRecursion Keeps ps
 all_keep t [] h = tt
 all_keep t (p ∷ ps) h = (keeps t p h.0, all_keep t ps h.1)
 

@@ -17,7 +17,7 @@ use Rattle.typed_tree.specs.declared.expr.StrExpr.TheVariants as strs
 use Rattle.typed_tree.specs.declared.stmt.TypedBlock.{TypedBlock, out-TypedBlock, roll-out-TypedBlock, fold-roll-TypedBlock}
 use Rattle.typed_tree.specs.declared.stmt.TypedStmt.{TypedStmt}
 use Rattle.typed_tree.specs.declared.stmt.TypedStmt.TheVariants as stmts
-use Rattle.typed_tree.specs.Parts.{Part, Ending, made_of, key_shapes, joined, gather_parts, number_parts, parts_in, stmt_parts, block_parts, stmt_layer, block_layer}
+use Rattle.typed_tree.specs.Parts.{TreePart, Ending, made_of, key_shapes, joined, gather_parts, number_parts, parts_in, stmt_parts, block_parts, stmt_layer, block_layer}
 use Rattle.typed_tree.specs.Scope.{same_bool, is_count}
 use Rattle.expr_types.specs.declared.known.Known.{Known}
 use Rattle.expr_types.specs.Mentions.{Word, BuiltinWord, FieldWord, GatherWord, NoElseWord, EndWord}
@@ -43,10 +43,10 @@ pub record IsBody (tree : TypedTree) : Type 0 where
   pub block : (out-TypedBlock tree.block).stmts ≡ counted first ∷ gathered second agg.Hist one ∷ gathered third agg.Sum two ∷ []
 
 -- the parts of statements and of their end
-abbrev ending : List TypedStmt → List Part
+abbrev ending : List TypedStmt → List TreePart
 ending ss = joined (map (λ (s : TypedStmt). stmt_parts s false) ss) ++ Ending ∷ []
 
-all_back : (P : Part → Type 0) (xs ys : List Part) → AllByRecursion P (xs ++ ys) → AllByRecursion P ys
+all_back : (P : TreePart → Type 0) (xs ys : List TreePart) → AllByRecursion P (xs ++ ys) → AllByRecursion P ys
 all_back P [] ys all = all
 all_back P (x ∷ xs) ys all = all_back P xs ys all.1
 
@@ -66,7 +66,7 @@ next_stmt t k (s ∷ more) name count kind ws fit h =
     let g : IsGather t count kind (ending more) ws s = gather_found t s (ending more) name count kind ws (ap (words_by t) (sym e) ∙ h) in
     let all : AllFit k (stmt_parts s false ++ ending more) = subst (AllFit k) e fit in
     let parts : stmt_parts s false ≡ gather_parts g.m.0 (map made_of g.keys) kind g.number = ap (λ (x : TypedStmt). stmt_parts x false) g.is ∙ gather_stmt g.m g.keys kind g.number false in
-    let one : AllFit k (gather_parts g.m.0 (map made_of g.keys) kind g.number ++ ending more) = subst (λ (l : List Part). AllFit k (l ++ ending more)) parts all in
+    let one : AllFit k (gather_parts g.m.0 (map made_of g.keys) kind g.number ++ ending more) = subst (λ (l : List TreePart). AllFit k (l ++ ending more)) parts all in
     record { s = s; more = more; is = refl; gather = g; counts = one.0.1; fit = all_back (Fits k) (stmt_parts s false) (ending more) all }
 
 one_key : (keys : List AnyExpr) → length (key_shapes (map made_of keys)) ≡ 1 → (e : AnyExpr) × (keys ≡ e ∷ [])
@@ -150,19 +150,19 @@ no_more t (s ∷ more) h =
     let e : ending (s ∷ more) ≡ stmt_parts s false ++ ending more = append_assoc (stmt_parts s false) (joined (map (λ (x : TypedStmt). stmt_parts x false) more)) (Ending ∷ []) in
     absurd (no_end t s (ending more) [] (ap (words_by t) (sym e) ∙ h))
 
-no_predicate : (t : Titles) (o : Option NumExpr) (rest : List Part) (ws : List Word) → words_by t (predicate_parts o ++ rest) ≡ NoElseWord ∷ ws → (o ≡ None) × (words_by t rest ≡ ws)
+no_predicate : (t : Titles) (o : Option NumExpr) (rest : List TreePart) (ws : List Word) → words_by t (predicate_parts o ++ rest) ≡ NoElseWord ∷ ws → (o ≡ None) × (words_by t rest ≡ ws)
 no_predicate t None rest ws h = (refl, cc)
 no_predicate t (Some e) rest ws h = absurd cc
 
-at_false : (ss : List TypedStmt) → map (λ (f : Bool → List Part). f false) (map stmt_parts ss) ≡ map (λ (s : TypedStmt). stmt_parts s false) ss
+at_false : (ss : List TypedStmt) → map (λ (f : Bool → List TreePart). f false) (map stmt_parts ss) ≡ map (λ (s : TypedStmt). stmt_parts s false) ss
 at_false [] = refl
-at_false (s ∷ ss) = ap (λ (l : List (List Part)). stmt_parts s false ∷ l) (at_false ss)
+at_false (s ∷ ss) = ap (λ (l : List (List TreePart)). stmt_parts s false ∷ l) (at_false ss)
 
 block_is : (b : TypedBlock) → block_parts b false ≡ ending (out-TypedBlock b).stmts
 block_is b =
     ap (λ (x : TypedBlock). block_parts x false) (sym (roll-out-TypedBlock b))
-    ∙ (ap (λ (f : Bool → List Part). f false) (fold-roll-TypedBlock (Bool → List Part) (Bool → List Part) stmt_layer block_layer (out-TypedBlock b))
-    ∙ ap (λ (l : List (List Part)). joined l ++ Ending ∷ []) (at_false (out-TypedBlock b).stmts))
+    ∙ (ap (λ (f : Bool → List TreePart). f false) (fold-roll-TypedBlock (Bool → List TreePart) (Bool → List TreePart) stmt_layer block_layer (out-TypedBlock b))
+    ∙ ap (λ (l : List (List TreePart)). joined l ++ Ending ∷ []) (at_false (out-TypedBlock b).stmts))
 
 chain : (a b c : TypedStmt) (all more rest last : List TypedStmt) → all ≡ a ∷ more → more ≡ b ∷ rest → rest ≡ c ∷ last → last ≡ [] → all ≡ a ∷ b ∷ c ∷ []
 chain a b c all more rest last e f g h =

@@ -17,37 +17,37 @@ use Rattle.typed_tree.specs.declared.stmt.TypedBlock.{TypedBlock}
 use Rattle.typed_tree.specs.declared.stmt.TypedStmt.{TypedStmt, roll-TypedStmt, out-TypedStmt, roll-out-TypedStmt, map-TypedStmt, fold-roll-TypedStmt}
 use Rattle.typed_tree.specs.declared.stmt.TypedStmt.TheOpen.{TypedStmt-F}
 use Rattle.typed_tree.specs.declared.stmt.TypedStmt.TheVariants as stmts
-use Rattle.typed_tree.specs.Parts.{Part, Made, made_of, num_parts, str_parts, parts_in, key_shapes, number_parts, stmt_parts, block_parts, any_layer, num_layer, str_layer, stmt_layer, block_layer}
+use Rattle.typed_tree.specs.Parts.{TreePart, Made, made_of, num_parts, str_parts, parts_in, key_shapes, number_parts, stmt_parts, block_parts, any_layer, num_layer, str_layer, stmt_layer, block_layer}
 use Rattle.expr_types.specs.Mentions.{Word, BuiltinWord, FieldWord, GatherWord, EndWord}
 use Rattle.expr_types.specs.Typing.{Titles, words_by, builtin_of}
 
 -- ---- expressions, a layer over their parts
 
-abbrev num_open : NumExpr-F AnyExpr NumExpr StrExpr → List Part
-num_open x = num_layer (map-NumExpr AnyExpr NumExpr StrExpr Made (List Part) (List Part) made_of num_parts str_parts x)
+abbrev num_open : NumExpr-F AnyExpr NumExpr StrExpr → List TreePart
+num_open x = num_layer (map-NumExpr AnyExpr NumExpr StrExpr Made (List TreePart) (List TreePart) made_of num_parts str_parts x)
 
-abbrev str_open : StrExpr-F AnyExpr NumExpr StrExpr → List Part
-str_open x = str_layer (map-StrExpr AnyExpr NumExpr StrExpr Made (List Part) (List Part) made_of num_parts str_parts x)
+abbrev str_open : StrExpr-F AnyExpr NumExpr StrExpr → List TreePart
+str_open x = str_layer (map-StrExpr AnyExpr NumExpr StrExpr Made (List TreePart) (List TreePart) made_of num_parts str_parts x)
 
 abbrev any_open : AnyExpr-F AnyExpr NumExpr StrExpr → Made
-any_open x = any_layer (map-AnyExpr AnyExpr NumExpr StrExpr Made (List Part) (List Part) made_of num_parts str_parts x)
+any_open x = any_layer (map-AnyExpr AnyExpr NumExpr StrExpr Made (List TreePart) (List TreePart) made_of num_parts str_parts x)
 
-abbrev stmt_open : TypedStmt-F TypedStmt TypedBlock → List Part
-stmt_open x = stmt_layer (map-TypedStmt TypedStmt TypedBlock (Bool → List Part) (Bool → List Part) stmt_parts block_parts x) false
+abbrev stmt_open : TypedStmt-F TypedStmt TypedBlock → List TreePart
+stmt_open x = stmt_layer (map-TypedStmt TypedStmt TypedBlock (Bool → List TreePart) (Bool → List TreePart) stmt_parts block_parts x) false
 
 num_is : (e : NumExpr) → num_parts e ≡ num_open (out-NumExpr e)
-num_is e = ap num_parts (sym (roll-out-NumExpr e)) ∙ fold-roll-NumExpr Made (List Part) (List Part) any_layer num_layer str_layer (out-NumExpr e)
+num_is e = ap num_parts (sym (roll-out-NumExpr e)) ∙ fold-roll-NumExpr Made (List TreePart) (List TreePart) any_layer num_layer str_layer (out-NumExpr e)
 
 str_is : (e : StrExpr) → str_parts e ≡ str_open (out-StrExpr e)
-str_is e = ap str_parts (sym (roll-out-StrExpr e)) ∙ fold-roll-StrExpr Made (List Part) (List Part) any_layer num_layer str_layer (out-StrExpr e)
+str_is e = ap str_parts (sym (roll-out-StrExpr e)) ∙ fold-roll-StrExpr Made (List TreePart) (List TreePart) any_layer num_layer str_layer (out-StrExpr e)
 
 any_is : (e : AnyExpr) → made_of e ≡ any_open (out-AnyExpr e)
-any_is e = ap made_of (sym (roll-out-AnyExpr e)) ∙ fold-roll-AnyExpr Made (List Part) (List Part) any_layer num_layer str_layer (out-AnyExpr e)
+any_is e = ap made_of (sym (roll-out-AnyExpr e)) ∙ fold-roll-AnyExpr Made (List TreePart) (List TreePart) any_layer num_layer str_layer (out-AnyExpr e)
 
 stmt_is : (s : TypedStmt) → stmt_parts s false ≡ stmt_open (out-TypedStmt s)
 stmt_is s =
     ap (λ (x : TypedStmt). stmt_parts x false) (sym (roll-out-TypedStmt s))
-    ∙ ap (λ (f : Bool → List Part). f false) (fold-roll-TypedStmt (Bool → List Part) (Bool → List Part) stmt_layer block_layer (out-TypedStmt s))
+    ∙ ap (λ (f : Bool → List TreePart). f false) (fold-roll-TypedStmt (Bool → List TreePart) (Bool → List TreePart) stmt_layer block_layer (out-TypedStmt s))
 
 -- ---- first words
 
@@ -69,7 +69,7 @@ value_more w h = refl
 first_of : (p : Word → Bool) (v w : Word) (vs ws : List Word) → v ∷ vs ≡ w ∷ ws → p v ≡ true → p w ≡ true
 first_of p v w vs ws h is = let e : v ≡ w = cc in subst (λ (x : Word). p x ≡ true) e is
 
-num_first_at : (t : Titles) (x : NumExpr-F AnyExpr NumExpr StrExpr) (rest : List Part) (w : Word) (ws : List Word) → words_by t (num_open x ++ rest) ≡ w ∷ ws → is_value w ≡ true
+num_first_at : (t : Titles) (x : NumExpr-F AnyExpr NumExpr StrExpr) (rest : List TreePart) (w : Word) (ws : List Word) → words_by t (num_open x ++ rest) ≡ w ∷ ws → is_value w ≡ true
 num_first_at t (NumExpr-F.Number n) rest w ws h = first_of is_value _ w _ ws h refl
 num_first_at t (NumExpr-F.Builtin b) rest w ws h = first_of is_value _ w _ ws h refl
 num_first_at t (NumExpr-F.NumExpr::Field f) rest w ws h = first_of is_value _ w _ ws h refl
@@ -85,17 +85,17 @@ num_first_at t (NumExpr-F.AndThen left right) rest w ws h = first_of is_value _ 
 num_first_at t (NumExpr-F.OrElse left right) rest w ws h = first_of is_value _ w _ ws h refl
 num_first_at t (NumExpr-F.NumExpr::Choose test first second) rest w ws h = first_of is_value _ w _ ws h refl
 
-pub num_first : (t : Titles) (e : NumExpr) (rest : List Part) (w : Word) (ws : List Word) → words_by t (num_parts e ++ rest) ≡ w ∷ ws → is_value w ≡ true
-num_first t e rest w ws h = num_first_at t (out-NumExpr e) rest w ws (ap (λ (l : List Part). words_by t (l ++ rest)) (sym (num_is e)) ∙ h)
+pub num_first : (t : Titles) (e : NumExpr) (rest : List TreePart) (w : Word) (ws : List Word) → words_by t (num_parts e ++ rest) ≡ w ∷ ws → is_value w ≡ true
+num_first t e rest w ws h = num_first_at t (out-NumExpr e) rest w ws (ap (λ (l : List TreePart). words_by t (l ++ rest)) (sym (num_is e)) ∙ h)
 
 -- ---- a field
 
-pub record IsFieldExpr (t : Titles) (rest : List Part) (ws : List Word) (e : NumExpr) : Type 0 where
+pub record IsFieldExpr (t : Titles) (rest : List TreePart) (ws : List Word) (e : NumExpr) : Type 0 where
   pub field : Field
   pub is : e ≡ nums.Field field
   pub behind : words_by t rest ≡ ws
 
-field_at : (t : Titles) (x : NumExpr-F AnyExpr NumExpr StrExpr) (rest : List Part) (name : List ℕ) (ws : List Word) → words_by t (num_open x ++ rest) ≡ FieldWord name ∷ ws
+field_at : (t : Titles) (x : NumExpr-F AnyExpr NumExpr StrExpr) (rest : List TreePart) (name : List ℕ) (ws : List Word) → words_by t (num_open x ++ rest) ≡ FieldWord name ∷ ws
     → IsFieldExpr t rest ws (roll-NumExpr x)
 field_at t (NumExpr-F.Number n) rest name ws h = absurd cc
 field_at t (NumExpr-F.Builtin b) rest name ws h = absurd cc
@@ -112,9 +112,9 @@ field_at t (NumExpr-F.AndThen left right) rest name ws h = absurd cc
 field_at t (NumExpr-F.OrElse left right) rest name ws h = absurd cc
 field_at t (NumExpr-F.NumExpr::Choose test first second) rest name ws h = absurd cc
 
-pub field_found : (t : Titles) (e : NumExpr) (rest : List Part) (name : List ℕ) (ws : List Word) → words_by t (num_parts e ++ rest) ≡ FieldWord name ∷ ws → IsFieldExpr t rest ws e
+pub field_found : (t : Titles) (e : NumExpr) (rest : List TreePart) (name : List ℕ) (ws : List Word) → words_by t (num_parts e ++ rest) ≡ FieldWord name ∷ ws → IsFieldExpr t rest ws e
 field_found t e rest name ws h =
-    subst (IsFieldExpr t rest ws) (roll-out-NumExpr e) (field_at t (out-NumExpr e) rest name ws (ap (λ (l : List Part). words_by t (l ++ rest)) (sym (num_is e)) ∙ h))
+    subst (IsFieldExpr t rest ws) (roll-out-NumExpr e) (field_at t (out-NumExpr e) rest name ws (ap (λ (l : List TreePart). words_by t (l ++ rest)) (sym (num_is e)) ∙ h))
 
 -- ---- the thread's name
 
@@ -122,7 +122,7 @@ no_comm : (b : NumBuiltin) → builtin_of b ≡ Comm → ⊥
 no_comm Pid h = cc
 no_comm b h = cc
 
-num_no_comm : (t : Titles) (x : NumExpr-F AnyExpr NumExpr StrExpr) (rest : List Part) (ws : List Word) → words_by t (num_open x ++ rest) ≡ BuiltinWord Comm ∷ ws → ⊥
+num_no_comm : (t : Titles) (x : NumExpr-F AnyExpr NumExpr StrExpr) (rest : List TreePart) (ws : List Word) → words_by t (num_open x ++ rest) ≡ BuiltinWord Comm ∷ ws → ⊥
 num_no_comm t (NumExpr-F.Number n) rest ws h = cc
 num_no_comm t (NumExpr-F.Builtin b) rest ws h = let e : builtin_of b ≡ Comm = cc in no_comm b e
 num_no_comm t (NumExpr-F.NumExpr::Field f) rest ws h = cc
@@ -138,14 +138,14 @@ num_no_comm t (NumExpr-F.AndThen left right) rest ws h = cc
 num_no_comm t (NumExpr-F.OrElse left right) rest ws h = cc
 num_no_comm t (NumExpr-F.NumExpr::Choose test first second) rest ws h = cc
 
-pub record IsCommExpr (t : Titles) (rest : List Part) (ws : List Word) (e : AnyExpr) : Type 0 where
+pub record IsCommExpr (t : Titles) (rest : List TreePart) (ws : List Word) (e : AnyExpr) : Type 0 where
   pub is : e ≡ anys.Str strs.Comm
   pub behind : words_by t rest ≡ ws
 
-abbrev IsComm : Titles → List Part → List Word → StrExpr → Type 0
+abbrev IsComm : Titles → List TreePart → List Word → StrExpr → Type 0
 IsComm t rest ws e = (e ≡ strs.Comm) × (words_by t rest ≡ ws)
 
-comm_at : (t : Titles) (x : StrExpr-F AnyExpr NumExpr StrExpr) (rest : List Part) (ws : List Word) → words_by t (str_open x ++ rest) ≡ BuiltinWord Comm ∷ ws → IsComm t rest ws (roll-StrExpr x)
+comm_at : (t : Titles) (x : StrExpr-F AnyExpr NumExpr StrExpr) (rest : List TreePart) (ws : List Word) → words_by t (str_open x ++ rest) ≡ BuiltinWord Comm ∷ ws → IsComm t rest ws (roll-StrExpr x)
 comm_at t (StrExpr-F.Text text) rest ws h = absurd cc
 comm_at t StrExpr-F.Comm rest ws h = (strs.rolls-Comm, cc)
 comm_at t (StrExpr-F.StrExpr::Field f) rest ws h = absurd cc
@@ -153,19 +153,19 @@ comm_at t (StrExpr-F.StrExpr::Var n) rest ws h = absurd cc
 comm_at t (StrExpr-F.StrExpr::Map m keys) rest ws h = absurd cc
 comm_at t (StrExpr-F.StrExpr::Choose test first second) rest ws h = absurd cc
 
-any_at : (t : Titles) (x : AnyExpr-F AnyExpr NumExpr StrExpr) (rest : List Part) (ws : List Word) → words_by t ((any_open x).parts ++ rest) ≡ BuiltinWord Comm ∷ ws → IsCommExpr t rest ws (roll-AnyExpr x)
-any_at t (AnyExpr-F.Num e) rest ws h = absurd (num_no_comm t (out-NumExpr e) rest ws (ap (λ (l : List Part). words_by t (l ++ rest)) (sym (num_is e)) ∙ h))
+any_at : (t : Titles) (x : AnyExpr-F AnyExpr NumExpr StrExpr) (rest : List TreePart) (ws : List Word) → words_by t ((any_open x).parts ++ rest) ≡ BuiltinWord Comm ∷ ws → IsCommExpr t rest ws (roll-AnyExpr x)
+any_at t (AnyExpr-F.Num e) rest ws h = absurd (num_no_comm t (out-NumExpr e) rest ws (ap (λ (l : List TreePart). words_by t (l ++ rest)) (sym (num_is e)) ∙ h))
 any_at t (AnyExpr-F.Str e) rest ws h =
-    let found = subst (IsComm t rest ws) (roll-out-StrExpr e) (comm_at t (out-StrExpr e) rest ws (ap (λ (l : List Part). words_by t (l ++ rest)) (sym (str_is e)) ∙ h)) in
+    let found = subst (IsComm t rest ws) (roll-out-StrExpr e) (comm_at t (out-StrExpr e) rest ws (ap (λ (l : List TreePart). words_by t (l ++ rest)) (sym (str_is e)) ∙ h)) in
     record { is = anys.rolls-Str e ∙ ap anys.Str found.0; behind = found.1 }
 
-pub comm_found : (t : Titles) (e : AnyExpr) (rest : List Part) (ws : List Word) → words_by t ((made_of e).parts ++ rest) ≡ BuiltinWord Comm ∷ ws → IsCommExpr t rest ws e
+pub comm_found : (t : Titles) (e : AnyExpr) (rest : List TreePart) (ws : List Word) → words_by t ((made_of e).parts ++ rest) ≡ BuiltinWord Comm ∷ ws → IsCommExpr t rest ws e
 comm_found t e rest ws h =
     subst (IsCommExpr t rest ws) (roll-out-AnyExpr e) (any_at t (out-AnyExpr e) rest ws (ap (λ (m : Made). words_by t (m.parts ++ rest)) (sym (any_is e)) ∙ h))
 
 -- ---- statements
 
-pub record IsGather (t : Titles) (count : ℕ) (kind : AggKind) (rest : List Part) (ws : List Word) (s : TypedStmt) : Type 0 where
+pub record IsGather (t : Titles) (count : ℕ) (kind : AggKind) (rest : List TreePart) (ws : List Word) (s : TypedStmt) : Type 0 where
   pub m : MapId
   pub keys : List AnyExpr
   pub number : Option NumExpr
@@ -184,7 +184,7 @@ is_other w = true
 other : (v : Word) (vs ws : List Word) (name : List ℕ) (count : ℕ) (kind : AggKind) → v ∷ vs ≡ GatherWord name count kind ∷ ws → is_other v ≡ true → ⊥
 other v vs ws name count kind h is = let x : false ≡ true = first_of is_other v (GatherWord name count kind) vs ws h is in cc
 
-gather_at : (t : Titles) (x : TypedStmt-F TypedStmt TypedBlock) (rest : List Part) (name : List ℕ) (count : ℕ) (kind : AggKind) (ws : List Word)
+gather_at : (t : Titles) (x : TypedStmt-F TypedStmt TypedBlock) (rest : List TreePart) (name : List ℕ) (count : ℕ) (kind : AggKind) (ws : List Word)
     → words_by t (stmt_open x ++ rest) ≡ GatherWord name count kind ∷ ws → IsGather t count kind rest ws (roll-TypedStmt x)
 gather_at t (TypedStmt-F.SetVar var value) rest name count kind ws h = absurd (other _ _ ws name count kind h refl)
 gather_at t (TypedStmt-F.SetMap m keys value) rest name count kind ws h = absurd (other _ _ ws name count kind h refl)
@@ -206,13 +206,13 @@ gather_at t (TypedStmt-F.If (arm ∷ arms) otherwise) rest name count kind ws h 
 gather_at t (TypedStmt-F.While test block line) rest name count kind ws h = absurd (other _ _ ws name count kind h refl)
 gather_at t (TypedStmt-F.Unroll turns block line) rest name count kind ws h = absurd (other _ _ ws name count kind h refl)
 
-pub gather_found : (t : Titles) (s : TypedStmt) (rest : List Part) (name : List ℕ) (count : ℕ) (kind : AggKind) (ws : List Word)
+pub gather_found : (t : Titles) (s : TypedStmt) (rest : List TreePart) (name : List ℕ) (count : ℕ) (kind : AggKind) (ws : List Word)
     → words_by t (stmt_parts s false ++ rest) ≡ GatherWord name count kind ∷ ws → IsGather t count kind rest ws s
 gather_found t s rest name count kind ws h =
     subst (IsGather t count kind rest ws) (roll-out-TypedStmt s)
-    (gather_at t (out-TypedStmt s) rest name count kind ws (ap (λ (l : List Part). words_by t (l ++ rest)) (sym (stmt_is s)) ∙ h))
+    (gather_at t (out-TypedStmt s) rest name count kind ws (ap (λ (l : List TreePart). words_by t (l ++ rest)) (sym (stmt_is s)) ∙ h))
 
-stmt_first_at : (t : Titles) (x : TypedStmt-F TypedStmt TypedBlock) (rest : List Part) (w : Word) (ws : List Word) → words_by t (stmt_open x ++ rest) ≡ w ∷ ws → is_more w ≡ true
+stmt_first_at : (t : Titles) (x : TypedStmt-F TypedStmt TypedBlock) (rest : List TreePart) (w : Word) (ws : List Word) → words_by t (stmt_open x ++ rest) ≡ w ∷ ws → is_more w ≡ true
 stmt_first_at t (TypedStmt-F.SetVar var value) rest w ws h = first_of is_more _ w _ ws h refl
 stmt_first_at t (TypedStmt-F.SetMap m keys value) rest w ws h = first_of is_more _ w _ ws h refl
 stmt_first_at t (TypedStmt-F.UpdateVar var op value) rest w ws h = first_of is_more _ w _ ws h refl
@@ -232,7 +232,7 @@ stmt_first_at t (TypedStmt-F.While test block line) rest w ws h = first_of is_mo
 stmt_first_at t (TypedStmt-F.Unroll turns block line) rest w ws h = first_of is_more _ w _ ws h refl
 
 -- no statement begins with an end
-pub no_end : (t : Titles) (s : TypedStmt) (rest : List Part) (ws : List Word) → words_by t (stmt_parts s false ++ rest) ≡ EndWord ∷ ws → ⊥
+pub no_end : (t : Titles) (s : TypedStmt) (rest : List TreePart) (ws : List Word) → words_by t (stmt_parts s false ++ rest) ≡ EndWord ∷ ws → ⊥
 no_end t s rest ws h =
-    let more : is_more EndWord ≡ true = stmt_first_at t (out-TypedStmt s) rest EndWord ws (ap (λ (l : List Part). words_by t (l ++ rest)) (sym (stmt_is s)) ∙ h) in
+    let more : is_more EndWord ≡ true = stmt_first_at t (out-TypedStmt s) rest EndWord ws (ap (λ (l : List TreePart). words_by t (l ++ rest)) (sym (stmt_is s)) ∙ h) in
     cc

@@ -25,5 +25,5 @@ pub record IsAttachedOver (r : Recording) (attached : Attached) : Type 0 where
   pub is : IsAttachedTo tree r.formats r.start r.end attached
 
 -- whoever runs the ticks, the totals of each map have no more keys than an object can hold
-abbrev pub HaveFewKeys : Typed → Attached → Recording → Type 0
-HaveFewKeys typed attached r = (m : MapId) (who : ℕ → ℕ) → length (totals (replay_of typed attached r) m who) ≤ KEYS
+abbrev pub HaveFewTotals : Typed → Attached → Recording → Type 0
+HaveFewTotals typed attached r = (m : MapId) (who : ℕ → ℕ) → length (totals (replay_of typed attached r) m who) ≤ KEYS

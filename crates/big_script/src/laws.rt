@@ -6,7 +6,7 @@ ghost use Rattle.recordings.specs.declared.recording.Recording.{Recording};
 ghost use Rattle.rec_gen.specs.Made.{IsMade};
 ghost use Rattle.script_programs.specs.Sizes.{first_size_fault};
 ghost use Rattle.typed_tree.specs.declared.script.Typed.{Typed};
-ghost use Rattle.big_script.specs.Jobs.{IsAttachedOver, IsTypedOver, HaveFewKeys};
+ghost use Rattle.big_script.specs.Jobs.{IsAttachedOver, IsTypedOver, HaveFewTotals};
 ghost use Rattle.big_script.specs.Tree.{IsScriptFor};
 
 /// Over a made recording nothing of the script is refused: it has tokens and a tree, none of its points breaks a rule of attaching, none of
@@ -21,5 +21,5 @@ pub fn script_is_accepted()
 pub fn script_only_adds()
     ensures only { (seed count : ℕ) (r : Recording) (typed : Typed) → IsMade seed count r → IsTypedOver r typed → IsAggregationOnly typed }
     ensures few { (seed count : ℕ) (r : Recording) (attached : Attached) (typed : Typed) → IsMade seed count r → IsAttachedOver r attached →
-        IsTypedOver r typed → HaveFewKeys typed attached r }
+        IsTypedOver r typed → HaveFewTotals typed attached r }
 {}

@@ -19,7 +19,7 @@ use Rattle.agg_core.specs.Changes.{is_key}
 use Rattle.map_rows.specs.Merged.{both_cells, joined_cells, cells_at, merged_rows, ordered_keys}
 use Rattle.step_list.specs.HeldReplies.{OptionFits, IsHeldAgg}
 use Rattle.map_rows.specs.UnderKey.{cell_number, number_under}
-use Rattle.map_rows.specs.Numbers.{number_by, or_zero, quotient}
+use Rattle.map_rows.specs.Numbers.{number_by, number_or_zero, whole_quotient}
 
 abbrev pub IsHeldCell : Cell → Type 0
 IsHeldCell (cells.Value v) = Unit {0}
@@ -91,10 +91,10 @@ divided_fits : (t : Bool) (a b : ℤ) → FitsSigned w64 (if t then pos 0 else w
 divided_fits true a b = zero_fits
 divided_fits false a b = SFits-int_wrap w64 (int_div a b)
 
-quotient_fits : (a b : ℤ) → FitsSigned w64 a → FitsSigned w64 b → FitsSigned w64 (quotient a b)
+quotient_fits : (a b : ℤ) → FitsSigned w64 a → FitsSigned w64 b → FitsSigned w64 (whole_quotient a b)
 quotient_fits a b p q = divided_fits (is_zero b) a b
 
-or_zero_fits : (o : Option ℤ) → OptionFits o → FitsSigned w64 (or_zero o)
+or_zero_fits : (o : Option ℤ) → OptionFits o → FitsSigned w64 (number_or_zero o)
 or_zero_fits None h = zero_fits
 or_zero_fits (Some n) h = h
 

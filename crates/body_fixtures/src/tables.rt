@@ -12,7 +12,7 @@ use bt_core::map::{AggKind, MapId, MapKind};
 use bt_core::step::{ObjectId, Op, Reply, Step};
 use bt_core::text::Str64;
 use bt_core::value::Value;
-use map_ops::parts::parts_in;
+use map_ops::parts::part_count;
 use std::alloc::Global;
 use std::test::Fail;
 
@@ -197,7 +197,7 @@ fn is_op(does: Does, op: &Op) -> bool {
 /// On how many objects an operation is made, beside so many actors.
 fn objects_of(does: Does, actors: u32) -> u32 {
     match does {
-        Does::ReadParts(_) | Does::ClearParts(_) | Does::ZeroParts(_) => parts_in(MapKind::Ints),
+        Does::ReadParts(_) | Does::ClearParts(_) | Does::ZeroParts(_) => part_count(MapKind::Ints),
         Does::ReadTables(_) | Does::ClearTables(_) | Does::ZeroTables(_) => actors,
         _ => 1,
     }

@@ -7,7 +7,7 @@ use bt_core::map::MapKind;
 use bt_core::memory::Memory;
 use bt_core::step::Reply;
 use bt_core::value::Value;
-use map_ops::parts::parts_in;
+use map_ops::parts::part_count;
 use std::alloc::Global;
 
 /// How long it takes from the one event of a thread to the other.
@@ -111,7 +111,7 @@ pub fn push_rows(
     rows: Items<(Key, Value)>,
 ) -> Result<(), Memory> {
     replies.push(Reply::Pairs(rows))?;
-    for _part in 1..parts_in(MapKind::Ints) {
+    for _part in 1..part_count(MapKind::Ints) {
         replies.push(Reply::Pairs(Items::new(alloc)))?;
     }
     Ok(())

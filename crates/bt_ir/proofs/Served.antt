@@ -28,7 +28,7 @@ use Rattle.ir_code.specs.Figures.{sizes_of, instr_bytes}
 use Rattle.ir_code.specs.Meaning.{Scene, instrs_run, after_exit, goes_on, exit_run, block_run, run_from, blocks_run, count_way, turn_way}
 use Rattle.bt_ir.specs.Running.{MayAsk, CanRun, IsReady, AreReady, AllReady}
 use Rattle.ir_code.specs.Serving.{IsServedAs, ServesInstr, ServesInstrs, ServesBlocks, end_read, ends_read, payload_need}
-use Rattle.ir_code.specs.Typing.{Ground, operand_shapes, names, end_with, turned, front_of, may_stand, all_stand, all_turned, stack_in, goes_with, exit_stands, block_stands, each_stands, has_room, is_key, is_gathering}
+use Rattle.ir_code.specs.Typing.{Ground, operand_shapes, names, end_with, turned, front_of, may_stand, all_stand, all_turned, stack_in, goes_with, exit_stands, block_stands, each_stands, has_room, is_key_shape, is_gathering}
 use Rattle.map_ops.specs.Values.{number_of, holds}
 use Rattle.ir_code.specs.Stacks.{top, below}
 use Rattle.bt_ir.proofs.Asks.{Can-and_then}
@@ -55,8 +55,8 @@ text_kind Chars h = inl refl
 text_kind DataLoc h = inr refl
 text_kind Other h = cc
 
-few : (key : List Shape) (b : Bool) → (is_key key && b) ≡ true → length key ≤ KEY_PARTS
-few key b h = leb-true (length key) KEY_PARTS (and_parts (is_key key) b h).0
+few : (key : List Shape) (b : Bool) → (is_key_shape key && b) ≡ true → length key ≤ KEY_PARTS
+few key b h = leb-true (length key) KEY_PARTS (and_parts (is_key_shape key) b h).0
 
 module _ (g : Ground) (setting : Setting) (v : View) (maps : v.maps.now ≡ g.maps) (actors : setting.actors ≡ v.actors) where
   swept : (m : MapId) → IsServedAs setting.maps g.maps m → is_there (slice_get g.maps m.0) ≡ true → CanSweep setting m (kind_of v.maps.now m) v.actors
@@ -83,7 +83,7 @@ module _ (g : Ground) (setting : Setting) (v : View) (maps : v.maps.now ≡ g.ma
   ready (i.Get m key shape) n e s = few key (is_declared (slice_get g.maps m.0) (kind_of_shape shape) key) n
   ready (i.ReadAgg m key) n e s =
       let summed = is_summed (slice_get g.maps m.0) key in
-      let named = (and_parts (is_key key) summed n).1 in
+      let named = (and_parts (is_key_shape key) summed n).1 in
       (few key summed n, swept m s (summed_there (slice_get g.maps m.0) key named), subst (λ (ms : List MapDecl). IsAggregation (kind_of ms m)) (sym maps) (summed_kind_in (slice_get g.maps m.0) key named))
   ready (i.Set m key shape) n e s = few key (is_declared (slice_get g.maps m.0) (kind_of_shape shape) key) n
   ready (i.Delete m key) n e s = few key (is_shared (slice_get g.maps m.0) key) n

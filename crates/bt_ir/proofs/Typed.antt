@@ -32,7 +32,7 @@ use Rattle.ir_code.specs.Figures.{sizes_of, instr_bytes}
 use Rattle.ir_code.specs.Meaning.{Scene, instr_run, instrs_run}
 use Rattle.bt_ir.specs.Running.{CanAsk}
 use Rattle.ir_code.specs.Serving.{IsServedAs, ServesInstr, ServesInstrs}
-use Rattle.ir_code.specs.Typing.{Ground, front_of, last_of, operand_shapes, gives, names, end_with, turned, may_stand, all_stand, all_turned, has_room, holds_shape, gathers, is_key, is_gathering}
+use Rattle.ir_code.specs.Typing.{Ground, front_of, last_of, operand_shapes, gives, names, end_with, turned, may_stand, all_stand, all_turned, has_room, holds_shape, gathers, is_key_shape, is_gathering}
 use Rattle.map_ops.specs.Values.{number_of}
 use Rattle.ir_code.specs.Stacks.{top, below}
 use Rattle.bt_ir.proofs.Asks.{Can-and_then}
@@ -64,7 +64,7 @@ declared_case setting m key h (Some decl) s e =
     record { decl = decl; here = s; kind = of_shape decl.kind h p.0; shaped = same_shapes-is decl.key_shape key p.1 }
 
 held : (g : Ground) (setting : Setting) (m : MapId) (key : List Shape) (h : Shape) → IsServedAs setting.maps g.maps m → holds_shape g m.0 key h ≡ true → Found setting m key (IsHolder h)
-held g setting m key h s e = declared_case setting m key h (slice_get g.maps m.0) s (and_parts (is_key key) (is_declared (slice_get g.maps m.0) (kind_of_shape h) key) e).1
+held g setting m key h s e = declared_case setting m key h (slice_get g.maps m.0) s (and_parts (is_key_shape key) (is_declared (slice_get g.maps m.0) (kind_of_shape h) key) e).1
 
 agg_of : (k : MapKind) → is_agg k ≡ true → IsAggregation k
 agg_of Ints e = cc
@@ -78,7 +78,7 @@ gathering_case setting m key (Some decl) s e =
     record { decl = decl; here = s; kind = agg_of decl.kind p.0; shaped = same_shapes-is decl.key_shape key p.1 }
 
 gathered : (g : Ground) (setting : Setting) (m : MapId) (key : List Shape) → IsServedAs setting.maps g.maps m → gathers g m.0 key ≡ true → Found setting m key IsAggregation
-gathered g setting m key s e = gathering_case setting m key (slice_get g.maps m.0) s (and_parts (is_key key) (is_gathering (slice_get g.maps m.0) key) e).1
+gathered g setting m key s e = gathering_case setting m key (slice_get g.maps m.0) s (and_parts (is_key_shape key) (is_gathering (slice_get g.maps m.0) key) e).1
 
 not_agg : (k : MapKind) → cond (is_agg k) false true ≡ true → IsShared k
 not_agg Ints h = tt
@@ -186,7 +186,7 @@ module _ (g : Ground) (setting : Setting) (scene : Scene) (f : Footing g setting
       (get_can setting m key shape (last_of (length key) s.stack) d p.1, λ r. shaped-put rest shape (front_of (length key) s.stack) _ p.0 (as_shape-shaped shape _))
   local (i.ReadAgg m key) rest s n w h =
       let p = shaped-split rest key s.stack h in
-      let gathers = summed_case setting m key (slice_get g.maps m.0) w (and_parts (is_key key) (is_summed (slice_get g.maps m.0) key) n).1 in
+      let gathers = summed_case setting m key (slice_get g.maps m.0) w (and_parts (is_key_shape key) (is_summed (slice_get g.maps m.0) key) n).1 in
       Can-and_then setting (λ a. Unit {0}) _ _ _
       (Can-and_then setting (λ rs. Unit {0}) _ _ _
       (asked_can setting Cpu (ops.Read m) [] 0 scene.actors scene.actors (omega arith) (λ place l. (omega (arith, l, f.actors), gathers))) (λ rs u. tt))
@@ -198,7 +198,7 @@ module _ (g : Ground) (setting : Setting) (scene : Scene) (f : Footing g setting
       ((set_can setting m key shape (last_of (length key) (below s.stack)) (top s.stack) d p.1 q.1), λ r. subst (λ (l : List Shape). HasShape l (front_of (length key) (below s.stack))) (sym (append-none rest)) p.0)
   local (i.Delete m key) rest s n w h =
       let p = shaped-split rest key s.stack h in
-      let d = shared_case setting m key (slice_get g.maps m.0) w (and_parts (is_key key) (is_shared (slice_get g.maps m.0) key) n).1 in
+      let d = shared_case setting m key (slice_get g.maps m.0) w (and_parts (is_key_shape key) (is_shared (slice_get g.maps m.0) key) n).1 in
       ((delete_can setting m key (last_of (length key) s.stack) d p.1), λ r. subst (λ (l : List Shape). HasShape l (front_of (length key) s.stack)) (sym (append-none rest)) p.0)
   local (i.Update m key op) rest s n w h =
       let q = shaped-pop (rest ++ key) shapes.Int s.stack (subst (λ (l : List Shape). HasShape l s.stack) (sym (append_assoc rest key (shapes.Int ∷ []))) h) in

@@ -13,7 +13,7 @@ use Rattle.bt_core.specs.declared.value.Value.TheVariants.{Int}
 use Rattle.bt_core.specs.Interaction.{Interaction, Ended, and_then}
 use Rattle.bt_core.proofs.InteractionLaws.{and_then_assoc}
 use Rattle.bt_core.specs.Arithmetic.{binary_value}
-use Rattle.typed_tree.specs.Parts.{Part}
+use Rattle.typed_tree.specs.Parts.{TreePart}
 use Rattle.walk_meaning.specs.declared.flow.Flow.{Flow}
 use Rattle.walk_meaning.specs.declared.flow.Flow.TheVariants.{Next}
 use Rattle.walk_meaning.specs.declared.flow.Frame.{Frame}
@@ -70,7 +70,7 @@ keyed-is ds d w frame F =
 
 -- ---- what statements do with values that are there
 
-pub set_var-acts : (qs : Bool → List Part) (x : ℕ) (shape : Shape) (d : Does Value) → Acts qs (i.Store x shape) (d ∷ []) (shape ∷ []) (set_variable x d) {A = Unit {0}} (λ w vs frame. Ended tt) (λ vs frame a. with_variable x (top vs) frame)
+pub set_var-acts : (qs : Bool → List TreePart) (x : ℕ) (shape : Shape) (d : Does Value) → Acts qs (i.Store x shape) (d ∷ []) (shape ∷ []) (set_variable x d) {A = Unit {0}} (λ w vs frame. Ended tt) (λ vs frame a. with_variable x (top vs) frame)
 unfolding given bind changed
 set_var-acts qs x shape d = record {
   takes_them = refl;
@@ -88,7 +88,7 @@ set_var-acts qs x shape d = record {
         ∙ ap (λ (l : List Value). Ended (state (with_variable x v frame) l)) (below-append values v)
     stored s w frame values (v ∷ u ∷ vs) h = absurd (omega arith)
 
-pub update_var-acts : (qs : Bool → List Part) (x : ℕ) (op : BinOp) (d : Does ℤ) → Acts qs (i.UpdateVar x op) (number_value d ∷ []) (shapes.Int ∷ []) (update_variable x op d) {A = Unit {0}} (λ w vs frame. Ended tt)
+pub update_var-acts : (qs : Bool → List TreePart) (x : ℕ) (op : BinOp) (d : Does ℤ) → Acts qs (i.UpdateVar x op) (number_value d ∷ []) (shapes.Int ∷ []) (update_variable x op d) {A = Unit {0}} (λ w vs frame. Ended tt)
     (λ vs frame a. with_variable x (Int (binary_value op (number_of (variable x frame)) (number_of (top vs)))) frame)
 unfolding given bind changed looked_at
 update_var-acts qs x op d = record {
@@ -107,7 +107,7 @@ update_var-acts qs x op d = record {
         ∙ ap (λ (l : List Value). Ended (state (with_variable x (Int (binary_value op (number_of (variable x frame)) (number_of v))) frame) l)) (below-append values v)
     stored s w frame values (v ∷ u ∷ vs) h = absurd (omega arith)
 
-pub step-acts : (qs : Bool → List Part) (d : Does ℤ) → Acts qs i.Pop (number_value d ∷ []) (shapes.Int ∷ []) (plain d) {A = Unit {0}} (λ w vs frame. Ended tt) (λ vs frame a. frame)
+pub step-acts : (qs : Bool → List TreePart) (d : Does ℤ) → Acts qs i.Pop (number_value d ∷ []) (shapes.Int ∷ []) (plain d) {A = Unit {0}} (λ w vs frame. Ended tt) (λ vs frame a. frame)
 unfolding given bind
 step-acts qs d = record {
   takes_them = refl;
@@ -123,7 +123,7 @@ step-acts qs d = record {
     popped s w frame values (v ∷ []) h = ap (λ (l : List Value). Ended (state frame l)) (below-append values v)
     popped s w frame values (v ∷ u ∷ vs) h = absurd (omega arith)
 
-pub delete-acts : (qs : Bool → List Part) (m : MapId) (key : List Shape) (ds : List (Does Value)) → Acts qs (i.Delete m key) ds key (delete_at m ds) (λ w vs frame. tells (part m vs) (ops.Delete vs)) (λ vs frame a. frame)
+pub delete-acts : (qs : Bool → List TreePart) (m : MapId) (key : List Shape) (ds : List (Does Value)) → Acts qs (i.Delete m key) ds key (delete_at m ds) (λ w vs frame. tells (part m vs) (ops.Delete vs)) (λ vs frame a. frame)
 unfolding given bind lifted
 delete-acts qs m key ds = record {
   takes_them = refl;
@@ -136,7 +136,7 @@ delete-acts qs m key ds = record {
   turns = λ vs frame a. refl;
 }
 
-pub count-acts : (qs : Bool → List Part) (m : MapId) (key : List Shape) (ds : List (Does Value)) → Acts qs (i.Count m key) ds key (gather m ds (given (pos 1))) (λ w vs frame. tells (Cpu w.actor) (ops.Add m vs (pos 1))) (λ vs frame a. frame)
+pub count-acts : (qs : Bool → List TreePart) (m : MapId) (key : List Shape) (ds : List (Does Value)) → Acts qs (i.Count m key) ds key (gather m ds (given (pos 1))) (λ w vs frame. tells (Cpu w.actor) (ops.Add m vs (pos 1))) (λ vs frame a. frame)
 unfolding given bind lifted looked_at
 count-acts qs m key ds = record {
   takes_them = refl;
@@ -149,7 +149,7 @@ count-acts qs m key ds = record {
   turns = λ vs frame a. refl;
 }
 
-pub printf-acts : (qs : Bool → List Part) (format : ℕ) (key : List Shape) (ds : List (Does Value)) → Acts qs (i.Printf format key) ds key (printf format ds) (λ w vs frame. tells Out (ops.Emit (items.Printf format vs))) (λ vs frame a. frame)
+pub printf-acts : (qs : Bool → List TreePart) (format : ℕ) (key : List Shape) (ds : List (Does Value)) → Acts qs (i.Printf format key) ds key (printf format ds) (λ w vs frame. tells Out (ops.Emit (items.Printf format vs))) (λ vs frame a. frame)
 unfolding given bind lifted
 printf-acts qs format key ds = record {
   takes_them = refl;
@@ -162,7 +162,7 @@ printf-acts qs format key ds = record {
   turns = λ vs frame a. refl;
 }
 
-pub set-acts : (qs : Bool → List Part) (m : MapId) (key : List Shape) (shape : Shape) (ds : List (Does Value)) (d : Does Value) → Acts qs (i.Set m key shape) (ds ++ d ∷ []) (key ++ shape ∷ []) (set_map m ds d) (λ w vs frame. tells (part m (below vs)) (ops.Set (below vs) (top vs))) (λ vs frame a. frame)
+pub set-acts : (qs : Bool → List TreePart) (m : MapId) (key : List Shape) (shape : Shape) (ds : List (Does Value)) (d : Does Value) → Acts qs (i.Set m key shape) (ds ++ d ∷ []) (key ++ shape ∷ []) (set_map m ds d) (λ w vs frame. tells (part m (below vs)) (ops.Set (below vs) (top vs))) (λ vs frame a. frame)
 unfolding given bind lifted
 set-acts qs m key shape ds d = record {
   takes_them = refl;
@@ -174,7 +174,7 @@ set-acts qs m key shape ds d = record {
   turns = λ vs frame a. refl;
 }
 
-pub update-acts : (qs : Bool → List Part) (m : MapId) (key : List Shape) (op : BinOp) (ds : List (Does Value)) (d : Does ℤ) → Acts qs (i.Update m key op) (ds ++ number_value d ∷ []) (key ++ shapes.Int ∷ []) (update_map m ds op d) (λ w vs frame. updated m (below vs) op (number_of (top vs))) (λ vs frame a. frame)
+pub update-acts : (qs : Bool → List TreePart) (m : MapId) (key : List Shape) (op : BinOp) (ds : List (Does Value)) (d : Does ℤ) → Acts qs (i.Update m key op) (ds ++ number_value d ∷ []) (key ++ shapes.Int ∷ []) (update_map m ds op d) (λ w vs frame. updated m (below vs) op (number_of (top vs))) (λ vs frame a. frame)
 unfolding given bind lifted
 update-acts qs m key op ds d = record {
   takes_them = refl;
@@ -187,7 +187,7 @@ update-acts qs m key op ds d = record {
   turns = λ vs frame a. refl;
 }
 
-pub add-acts : (qs : Bool → List Part) (m : MapId) (key : List Shape) (ds : List (Does Value)) (d : Does ℤ) → Acts qs (i.Add m key) (ds ++ number_value d ∷ []) (key ++ shapes.Int ∷ []) (gather m ds d) (λ w vs frame. tells (Cpu w.actor) (ops.Add m (below vs) (number_of (top vs)))) (λ vs frame a. frame)
+pub add-acts : (qs : Bool → List TreePart) (m : MapId) (key : List Shape) (ds : List (Does Value)) (d : Does ℤ) → Acts qs (i.Add m key) (ds ++ number_value d ∷ []) (key ++ shapes.Int ∷ []) (gather m ds d) (λ w vs frame. tells (Cpu w.actor) (ops.Add m (below vs) (number_of (top vs)))) (λ vs frame a. frame)
 unfolding given bind lifted looked_at
 add-acts qs m key ds d = record {
   takes_them = refl;

@@ -23,7 +23,7 @@ use Rattle.typed_tree.specs.declared.expr.NumExpr.{NumExpr}
 use Rattle.typed_tree.specs.declared.expr.NumExpr.TheVariants as nums
 use Rattle.typed_tree.specs.declared.expr.StrExpr.{StrExpr}
 use Rattle.typed_tree.specs.declared.expr.StrExpr.TheVariants as strs
-use Rattle.typed_tree.specs.Parts.{Part, Made, made_of, num_parts, str_parts, parts_in, key_shapes, compared}
+use Rattle.typed_tree.specs.Parts.{TreePart, Made, made_of, num_parts, str_parts, parts_in, key_shapes, compared}
 use Rattle.typed_tree.specs.Parts.{Constant, Literal, Numeric, Command, FieldOf, VarOf, MapOf, Stepped, Joined, Both, Either, Chosen}
 use Rattle.typed_tree.specs.Scope.{Scope, all_fit, fits, is_shape, shape_of_field, has_field}
 use Rattle.event_record.specs.Fields.{field_number, field_text}
@@ -57,17 +57,17 @@ pub at-ok : {A : Type 0} {P Q : Type 0} (r : Result A Memory) → OnOk r P → (
 at-ok (Ok x) h f = f h
 at-ok (Err e) h f = tt
 
-num-is : (e x : NumExpr) (ps : List Part) (d : Does ℤ) (n : Need) (c new : Code) → e ≡ x → num_parts x ≡ ps → number_does x ≡ d → number_need x ≡ n → LowersValue ps (number_value d) shapes.Int n c new → LowersNumber e c new
+num-is : (e x : NumExpr) (ps : List TreePart) (d : Does ℤ) (n : Need) (c new : Code) → e ≡ x → num_parts x ≡ ps → number_does x ≡ d → number_need x ≡ n → LowersValue ps (number_value d) shapes.Int n c new → LowersNumber e c new
 num-is e x ps d n c new he hp hd hn l =
     subst (λ (y : NumExpr). LowersNumber y c new) (sym he)
-    (subst (λ (q : List Part). LowersValue q (number_value (number_does x)) shapes.Int (number_need x) c new) (sym hp)
+    (subst (λ (q : List TreePart). LowersValue q (number_value (number_does x)) shapes.Int (number_need x) c new) (sym hp)
     (subst (λ (q : Does ℤ). LowersValue ps (number_value q) shapes.Int (number_need x) c new) (sym hd)
     (subst (λ (q : Need). LowersValue ps (number_value d) shapes.Int q c new) (sym hn) l)))
 
-str-is : (e x : StrExpr) (ps : List Part) (d : Does (List ℕ)) (n : Need) (c new : Code) → e ≡ x → str_parts x ≡ ps → text_does x ≡ d → text_need x ≡ n → LowersValue ps (text_value d) shapes.Str n c new → LowersText e c new
+str-is : (e x : StrExpr) (ps : List TreePart) (d : Does (List ℕ)) (n : Need) (c new : Code) → e ≡ x → str_parts x ≡ ps → text_does x ≡ d → text_need x ≡ n → LowersValue ps (text_value d) shapes.Str n c new → LowersText e c new
 str-is e x ps d n c new he hp hd hn l =
     subst (λ (y : StrExpr). LowersText y c new) (sym he)
-    (subst (λ (q : List Part). LowersValue q (text_value (text_does x)) shapes.Str (text_need x) c new) (sym hp)
+    (subst (λ (q : List TreePart). LowersValue q (text_value (text_does x)) shapes.Str (text_need x) c new) (sym hp)
     (subst (λ (q : Does (List ℕ)). LowersValue ps (text_value q) shapes.Str (text_need x) c new) (sym hd)
     (subst (λ (q : Need). LowersValue ps (text_value d) shapes.Str q c new) (sym hn) l)))
 
@@ -271,7 +271,7 @@ number-given : (z : ℤ) → given (Int z) ≡ number_value (given z)
 unfolding bind given
 number-given z = refl
 
-choice-fit : (head : Part) (pt px py : List Part) (s : Scope) → all_fit s (head ∷ (pt ++ (px ++ py))) ≡ true → (all_fit s pt ≡ true) × ((all_fit s px ≡ true) × (all_fit s py ≡ true))
+choice-fit : (head : TreePart) (pt px py : List TreePart) (s : Scope) → all_fit s (head ∷ (pt ++ (px ++ py))) ≡ true → (all_fit s pt ≡ true) × ((all_fit s px ≡ true) × (all_fit s py ≡ true))
 choice-fit head pt px py s h =
     let p = fit-head s head (pt ++ (px ++ py)) h in
     let q = fit-parts s pt (px ++ py) p.1 in
@@ -304,7 +304,7 @@ S-Choose e t t1 y o y1 o1 c c0 c1 c2 c3 c4 new after first second he ht hy ho e0
     (Lowers-either (Chosen ∷ (num_parts t ++ (str_parts y ++ str_parts o))) (num_parts t) (str_parts y) (str_parts o) (number_does t) (text_value (text_does y)) (text_value (text_does o)) shapes.Str (number_need t) (more 1 (text_need y)) (more 1 (text_need o))
     c c0 c1 c2 c3 c4 new after first second (choice-fit Chosen (num_parts t) (str_parts y) (str_parts o)) e0 ea e1 lo' ly' e4 lt')))
 
-pair-fit : (head : Part) (pl pr : List Part) (s : Scope) → all_fit s (head ∷ (pl ++ pr)) ≡ true → (all_fit s pl ≡ true) × (all_fit s pr ≡ true)
+pair-fit : (head : TreePart) (pl pr : List TreePart) (s : Scope) → all_fit s (head ∷ (pl ++ pr)) ≡ true → (all_fit s pl ≡ true) × (all_fit s pr ≡ true)
 pair-fit head pl pr s h = let p = fit-head s head (pl ++ pr) h in let q = fit-parts s pl pr p.1 in (q.0, q.1)
 
 pub N-AndThen : (e : NumExpr) (l r l1 r1 : NumExpr) (v : Value) (c c0 c1 c2 c3 c4 new : Code) (after first second : ℕ) → e ≡ nums.AndThen l r → l1 ≡ l → r1 ≡ r → v ≡ Int (pos 0) →

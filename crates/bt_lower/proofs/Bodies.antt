@@ -9,7 +9,7 @@ use Rattle.bt_core.proofs.InteractionLaws.{and_then_assoc}
 use Rattle.typed_tree.specs.declared.body.TypedTree.{TypedTree}
 use Rattle.typed_tree.specs.declared.expr.NumExpr.{NumExpr}
 use Rattle.typed_tree.specs.declared.stmt.TypedBlock.{TypedBlock}
-use Rattle.typed_tree.specs.Parts.{Part, Otherwise, NoOtherwise, num_parts, block_parts}
+use Rattle.typed_tree.specs.Parts.{TreePart, Otherwise, NoOtherwise, num_parts, block_parts}
 use Rattle.typed_tree.specs.Scope.{all_fit}
 use Rattle.walk_meaning.specs.declared.flow.Flow.{Flow}
 use Rattle.walk_meaning.specs.declared.flow.Flow.TheVariants.{Next}
@@ -65,7 +65,7 @@ Guarded-some predicate e block after first head way c c1 c2 c3 c4 c5 new is e1 e
 
 -- ---- a whole body
 
-module _ (parts : Bool → List Part) (d : Does Flow) (n : Need) (c : Code) (l : LowersStmt parts d n (record { leave = 0; again = 0 }) (closed nothing) c) where
+module _ (parts : Bool → List TreePart) (d : Does Flow) (n : Need) (c : Code) (l : LowersStmt parts d n (record { leave = 0; again = 0 }) (closed nothing) c) where
   abbrev bs : List Block
   bs = (closed c).blocks
 

@@ -10,7 +10,7 @@ use Rattle.typed_tree.specs.declared.stmt.TypedStmt.{TypedStmt, fold-roll-TypedS
 use Rattle.typed_tree.specs.declared.stmt.TypedStmt.TheVariants as stmts
 use Rattle.typed_tree.specs.declared.stmt.TypedStmt.TheOpen.{TypedStmt-F}
 use Rattle.typed_tree.specs.declared.stmt.TypedStmt.TheShapes.{former-TypedStmt-If-0-at-2}
-use Rattle.typed_tree.specs.Parts.{Part, num_parts, stmt_parts, block_parts, arm_parts, otherwise_parts, joined, Arm, Otherwise}
+use Rattle.typed_tree.specs.Parts.{TreePart, num_parts, stmt_parts, block_parts, arm_parts, otherwise_parts, joined, Arm, Otherwise}
 use Rattle.typed_tree.specs.Parts.{stmt_layer, block_layer}
 use Rattle.typed_tree.specs.Scope.{Scope, all_fit}
 use Rattle.walk_meaning.specs.declared.flow.Flow.{Flow}
@@ -32,25 +32,25 @@ use Rattle.bt_lower.proofs.Stmts.{Stmt-less, Stmt-fit, Lowers-none}
 
 -- ---- what an `if` is made of, and what it needs
 
-abbrev arm_made : Bool → NumExpr × TypedBlock → List Part
+abbrev arm_made : Bool → NumExpr × TypedBlock → List TreePart
 arm_made inside arm = arm_parts (arm.0, block_parts arm.1 inside)
 
 abbrev pub arm_needs : NumExpr × TypedBlock → Need
 arm_needs arm = arm_need (arm.0, block_need arm.1)
 
-parts-mapped : (inside : Bool) (arms : List (NumExpr × TypedBlock)) → map (λ (arm : NumExpr × (Bool → List Part)). arm_parts (arm.0, arm.1 inside)) (map (former-TypedStmt-If-0-at-2.map TypedBlock (Bool → List Part) block_parts) arms) ≡ map (arm_made inside) arms
+parts-mapped : (inside : Bool) (arms : List (NumExpr × TypedBlock)) → map (λ (arm : NumExpr × (Bool → List TreePart)). arm_parts (arm.0, arm.1 inside)) (map (former-TypedStmt-If-0-at-2.map TypedBlock (Bool → List TreePart) block_parts) arms) ≡ map (arm_made inside) arms
 parts-mapped inside [] = refl
-parts-mapped inside (arm ∷ arms) = ap (λ (l : List (List Part)). arm_made inside arm ∷ l) (parts-mapped inside arms)
+parts-mapped inside (arm ∷ arms) = ap (λ (l : List (List TreePart)). arm_made inside arm ∷ l) (parts-mapped inside arms)
 
 needs-mapped : (arms : List (NumExpr × TypedBlock)) → map arm_need (map (former-TypedStmt-If-0-at-2.map TypedBlock Need block_need) arms) ≡ map arm_needs arms
 needs-mapped [] = refl
 needs-mapped (arm ∷ arms) = ap (λ (l : List Need). arm_needs arm ∷ l) (needs-mapped arms)
 
 pub If-parts : (arms : List (NumExpr × TypedBlock)) (o : Option TypedBlock) → stmt_parts (stmts.If arms o) ≡ arms_parts arms o
-If-parts arms None = ap stmt_parts (sym (stmts.rolls-If arms None)) ∙ fold-roll-TypedStmt (Bool → List Part) (Bool → List Part) stmt_layer block_layer (TypedStmt-F.If arms None)
-    ∙ (λ j inside. ap (λ (l : List (List Part)). joined l ++ otherwise_parts None) (parts-mapped inside arms) j)
-If-parts arms (Some block) = ap stmt_parts (sym (stmts.rolls-If arms (Some block))) ∙ fold-roll-TypedStmt (Bool → List Part) (Bool → List Part) stmt_layer block_layer (TypedStmt-F.If arms (Some block))
-    ∙ (λ j inside. ap (λ (l : List (List Part)). joined l ++ otherwise_parts (Some (block_parts block inside))) (parts-mapped inside arms) j)
+If-parts arms None = ap stmt_parts (sym (stmts.rolls-If arms None)) ∙ fold-roll-TypedStmt (Bool → List TreePart) (Bool → List TreePart) stmt_layer block_layer (TypedStmt-F.If arms None)
+    ∙ (λ j inside. ap (λ (l : List (List TreePart)). joined l ++ otherwise_parts None) (parts-mapped inside arms) j)
+If-parts arms (Some block) = ap stmt_parts (sym (stmts.rolls-If arms (Some block))) ∙ fold-roll-TypedStmt (Bool → List TreePart) (Bool → List TreePart) stmt_layer block_layer (TypedStmt-F.If arms (Some block))
+    ∙ (λ j inside. ap (λ (l : List (List TreePart)). joined l ++ otherwise_parts (Some (block_parts block inside))) (parts-mapped inside arms) j)
 
 pub If-need : (arms : List (NumExpr × TypedBlock)) (o : Option TypedBlock) → stmt_need (stmts.If arms o) ≡ greater (all_need (map arm_needs arms)) (else_need o)
 If-need arms None = ap stmt_need (sym (stmts.rolls-If arms None)) ∙ fold-roll-TypedStmt Need Need stmt_need_by_parts block_need_by_parts (TypedStmt-F.If arms None) ∙ ap (λ (l : List Need). greater (all_need l) (need 0 0)) (needs-mapped arms)
@@ -61,7 +61,7 @@ If-is arms o way c new l = tree-is (stmts.If arms o) (stmts.If arms o) (arms_par
 
 -- ---- what `else` does
 
-Block-fit : (ps qs : Bool → List Part) (d : Does Flow) (n : Need) (after : ℕ) (way : Ways) (old new : Code) (b : ℕ) → ((s : Scope) (inside : Bool) → all_fit s (qs inside) ≡ true → all_fit s (ps inside) ≡ true) → LowersBlock ps d n after way old new b → LowersBlock qs d n after way old new b
+Block-fit : (ps qs : Bool → List TreePart) (d : Does Flow) (n : Need) (after : ℕ) (way : Ways) (old new : Code) (b : ℕ) → ((s : Scope) (inside : Bool) → all_fit s (qs inside) ≡ true → all_fit s (ps inside) ≡ true) → LowersBlock ps d n after way old new b → LowersBlock qs d n after way old new b
 Block-fit ps qs d n after way old new b f l = record {
   grew = l.grew;
   depth = l.depth;
@@ -89,7 +89,7 @@ Arms-more arm arms o after second first b way c c1 c2 c3 c4 new ls lb e3 lt en e
     fit s inside h =
         let own = arm_made inside arm in
         let others = joined (map (arm_made inside) arms) in
-        let p = fit-parts s own (others ++ else_parts o inside) (subst (λ (l : List Part). all_fit s l ≡ true) (append_assoc own others (else_parts o inside)) h) in
+        let p = fit-parts s own (others ++ else_parts o inside) (subst (λ (l : List TreePart). all_fit s l ≡ true) (append_assoc own others (else_parts o inside)) h) in
         let q = fit-head s Arm (num_parts arm.0 ++ block_parts arm.1 inside) p.0 in
         let r = fit-parts s (num_parts arm.0) (block_parts arm.1 inside) q.1 in
         (r.0, (r.1, p.1))

@@ -10,7 +10,7 @@ use Rattle.bt_core.specs.declared.value.Value.{Value}
 use Rattle.bt_core.specs.declared.value.Value.TheVariants.{Int}
 use Rattle.bt_core.specs.Interaction.{Interaction, Ended, and_then}
 use Rattle.bt_core.proofs.InteractionLaws.{and_then_assoc}
-use Rattle.typed_tree.specs.Parts.{Part}
+use Rattle.typed_tree.specs.Parts.{TreePart}
 use Rattle.typed_tree.specs.Scope.{Scope, all_fit}
 use Rattle.walk_meaning.specs.declared.flow.Frame.{Frame}
 use Rattle.walk_meaning.specs.Does.{Does, given, bind, choose, if_holds, in_order}
@@ -50,7 +50,7 @@ one_goes bs c after base maps w values on k p long h =
 
 -- ---- a block of its own
 
-pub Lowers-arm : (ps : List Part) (d : Does Value) (shape : Shape) (n : Need) (after : ℕ) (c c0 c1 new : Code) (b : ℕ) → c0 ≡ begun (Goto after) (shape ∷ []) c → LowersValue ps d shape n c0 c1 → new ≡ closed c1 → b ≡ length c1.blocks → LowersArm ps d shape (more 1 n) after c new b
+pub Lowers-arm : (ps : List TreePart) (d : Does Value) (shape : Shape) (n : Need) (after : ℕ) (c c0 c1 new : Code) (b : ℕ) → c0 ≡ begun (Goto after) (shape ∷ []) c → LowersValue ps d shape n c0 c1 → new ≡ closed c1 → b ≡ length c1.blocks → LowersArm ps d shape (more 1 n) after c new b
 Lowers-arm ps d shape n after c c0 c1 new b e0 l0 en eb =
     let l = subst (λ x. LowersValue ps d shape n x c1) e0 l0 in
     let same : c1.stack ≡ c.stack = l.stack c.stack refl in
@@ -113,7 +113,7 @@ if_holds-is tst x y w frame k =
     ∙ sym (and_then_assoc (tst w frame) (λ p. Ended (Int p.0, p.1)) (λ p. cond (holds (number_of p.0)) (and_then (x w p.1) k) (and_then (y w p.1) k)))
     ∙ sym (in_order-one (number_value tst) w frame (λ q. cond (holds (number_of (top q.0))) (and_then (x w q.1) k) (and_then (y w q.1) k)))
 
-pub Lowers-either : (ps pt px py : List Part) (tst : Does ℤ) (x y : Does Value) (shape : Shape) (nt nx ny : Need) (c c0 c1 c2 c3 c4 new : Code) (after first second : ℕ) →
+pub Lowers-either : (ps pt px py : List TreePart) (tst : Does ℤ) (x y : Does Value) (shape : Shape) (nt nx ny : Need) (c c0 c1 c2 c3 c4 new : Code) (after first second : ℕ) →
     ((s : Scope) → all_fit s ps ≡ true → (all_fit s pt ≡ true) × ((all_fit s px ≡ true) × (all_fit s py ≡ true))) →
     c0 ≡ closed c → after ≡ length c.blocks → c1 ≡ untyped c0 → LowersArm py y shape ny after c1 c2 second → LowersArm px x shape nx after c2 c3 first → c4 ≡ begun (Branch first second) (shapes.Int ∷ []) c3 → LowersValue pt (number_value tst) shapes.Int nt c4 new →
     LowersValue ps (if_holds tst x y) shape (need (max nt.frame (max nx.frame ny.frame)) (3 + nt.code + nx.code + ny.code)) c new

@@ -7,7 +7,7 @@ use Rattle.bt_core.specs.declared.map.Shape.{Shape}
 use Rattle.bt_core.specs.declared.value.Value.{Value}
 use Rattle.bt_core.specs.Interaction.{Interaction, Ended, and_then}
 use Rattle.bt_core.proofs.InteractionLaws.{and_then_assoc}
-use Rattle.typed_tree.specs.Parts.{Part}
+use Rattle.typed_tree.specs.Parts.{TreePart}
 use Rattle.typed_tree.specs.Scope.{Scope, all_fit}
 use Rattle.walk_meaning.specs.declared.flow.Frame.{Frame}
 use Rattle.walk_meaning.specs.Does.{Does, given, bind, gathered, in_order}
@@ -69,7 +69,7 @@ Parts-none c = record {
   sound = λ bs stand t fits rest e room o. (o, Sound-none t.ground bs (length c.blocks));
 }
 
-pub Parts-less : (parts : List Part) (ds : List (Does Value)) (shapes : List Shape) (n m : Need) (old new : Code) → n.frame ≤ m.frame → n.code ≤ m.code → LowersParts parts ds shapes n old new → LowersParts parts ds shapes m old new
+pub Parts-less : (parts : List TreePart) (ds : List (Does Value)) (shapes : List Shape) (n m : Need) (old new : Code) → n.frame ≤ m.frame → n.code ≤ m.code → LowersParts parts ds shapes n old new → LowersParts parts ds shapes m old new
 Parts-less parts ds shapes n m old new hf hc l = record {
   grew = l.grew;
   depth = l.depth;
@@ -80,7 +80,7 @@ Parts-less parts ds shapes n m old new hf hc l = record {
   sound = λ bs stand t fits rest e room o. l.sound bs stand t fits rest e (Room-less t.ground _ _ (omega arith) room) o;
 }
 
-pub Parts-fit : (ps qs : List Part) (ds : List (Does Value)) (shapes : List Shape) (n : Need) (old new : Code) → ((s : Scope) → all_fit s qs ≡ true → all_fit s ps ≡ true) → LowersParts ps ds shapes n old new → LowersParts qs ds shapes n old new
+pub Parts-fit : (ps qs : List TreePart) (ds : List (Does Value)) (shapes : List Shape) (n : Need) (old new : Code) → ((s : Scope) → all_fit s qs ≡ true → all_fit s ps ≡ true) → LowersParts ps ds shapes n old new → LowersParts qs ds shapes n old new
 Parts-fit ps qs ds shapes n old new f l = record {
   grew = l.grew;
   depth = l.depth;
@@ -91,7 +91,7 @@ Parts-fit ps qs ds shapes n old new f l = record {
   sound = λ bs stand t fits rest e room o. l.sound bs stand t (f t.scope fits) rest e room o;
 }
 
-pub Parts-append : (ps qs : List Part) (ds es : List (Does Value)) (ss ts : List Shape) (n m : Need) (c c1 new : Code) → LowersParts qs es ts m c c1 → LowersParts ps ds ss n c1 new →
+pub Parts-append : (ps qs : List TreePart) (ds es : List (Does Value)) (ss ts : List Shape) (n m : Need) (c c1 new : Code) → LowersParts qs es ts m c c1 → LowersParts ps ds ss n c1 new →
     LowersParts (ps ++ qs) (ds ++ es) (ss ++ ts) (need (max n.frame (sizes_of ss + m.frame)) (n.code + m.code)) c new
 Parts-append ps qs ds es ss ts n m c c1 new le ld = record {
   grew = Grew-trans _ _ _ le.grew ld.grew;
@@ -128,7 +128,7 @@ pub record Puts (i : Instr) (ds : List (Does Value)) (ss : List Shape) (shape : 
       instr_run i (seen_by maps w) (state frame (values ++ vs)) ≡ and_then (t w vs frame) (λ a. Ended (state (fr vs frame a) (values ++ v w vs frame a ∷ [])))
   pub turns : (vs : List Value) (frame : Frame) (a : A) → (fr vs frame a).turns ≡ frame.turns
 
-pub Parts-put : {A : Type 0} (i : Instr) (ps : List Part) (head : Part) (ds : List (Does Value)) (ss : List Shape) (shape : Shape) (d : Does Value) (t : BodyScene → List Value → Frame → Interaction A) (v : BodyScene → List Value → Frame → A → Value) (fr : List Value → Frame → A → Frame) (n : Need) (c c1 new : Code) →
+pub Parts-put : {A : Type 0} (i : Instr) (ps : List TreePart) (head : TreePart) (ds : List (Does Value)) (ss : List Shape) (shape : Shape) (d : Does Value) (t : BodyScene → List Value → Frame → Interaction A) (v : BodyScene → List Value → Frame → A → Value) (fr : List Value → Frame → A → Frame) (n : Need) (c c1 new : Code) →
     Puts i ds ss shape d t v fr → ((s : Site) → all_fit s.scope (head ∷ ps) ≡ true → (names (ground_in s.ground) i ≡ true) × (all_fit s.scope ps ≡ true)) → ((s : Site) → all_fit s.scope (head ∷ ps) ≡ true → end_read i ≤ s.ground.payload) → c1 ≡ pushed i c → LowersParts ps ds ss n c1 new →
     LowersValue (head ∷ ps) d shape (need (max n.frame (sizes_of ss + instr_bytes i)) (instr_slots i + n.code)) c new
 Parts-put i ps head ds ss shape d t v fr n c c1 new pu named reads e1 l1 =

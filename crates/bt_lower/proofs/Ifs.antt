@@ -9,7 +9,7 @@ use Rattle.bt_core.specs.declared.value.Value.{Value}
 use Rattle.bt_core.specs.declared.value.Value.TheVariants.{Int}
 use Rattle.bt_core.specs.Interaction.{Interaction, Ended, and_then}
 use Rattle.bt_core.proofs.InteractionLaws.{and_then_assoc}
-use Rattle.typed_tree.specs.Parts.{Part}
+use Rattle.typed_tree.specs.Parts.{TreePart}
 use Rattle.typed_tree.specs.Scope.{Scope, all_fit}
 use Rattle.walk_meaning.specs.declared.flow.Flow.{Flow}
 use Rattle.walk_meaning.specs.declared.flow.Flow.TheVariants.{Next}
@@ -38,7 +38,7 @@ use Rattle.bt_lower.proofs.Slots.{slots-closed, slots-begun}
 use Rattle.bt_lower.proofs.Stmts.{fuel-depth, fuel-turns, WaysStand-on}
 
 -- nothing more is done, and the block that follows comes next
-pub Block-none : (qs : Bool → List Part) (after : ℕ) (way : Ways) (c : Code) → LowersBlock qs (given Next) (need 0 0) after way c c after
+pub Block-none : (qs : Bool → List TreePart) (after : ℕ) (way : Ways) (c : Code) → LowersBlock qs (given Next) (need 0 0) after way c c after
 unfolding given
 Block-none qs after way c = record {
   grew = Grew-refl c.blocks;
@@ -76,7 +76,7 @@ branches bs c first second n scene values q long t u p r =
     (Runs-branch bs c first second n (shapes.Int ∷ []) scene q.1 values v (t q.1) (u q.1) p r)
 
 -- an arm: its test, its block, and what comes where the test does not hold, which is there already
-pub Block-arm : (qs px py : Bool → List Part) (pt : List Part) (tst : Does ℤ) (x y : Does Flow) (nt nx ny : Need) (after second first b : ℕ) (way : Ways) (c c1 c2 c3 c4 new : Code) →
+pub Block-arm : (qs px py : Bool → List TreePart) (pt : List TreePart) (tst : Does ℤ) (x y : Does Flow) (nt nx ny : Need) (after second first b : ℕ) (way : Ways) (c c1 c2 c3 c4 new : Code) →
     ((s : Scope) (inside : Bool) → all_fit s (qs inside) ≡ true → (all_fit s pt ≡ true) × ((all_fit s (px inside) ≡ true) × (all_fit s (py inside) ≡ true))) →
     LowersBlock py y ny after way c c1 second → LowersBlock px x nx after way c1 c2 first → c3 ≡ begun (Branch first second) (shapes.Int ∷ []) c2 → LowersValue pt (number_value tst) shapes.Int nt c3 c4 → new ≡ closed c4 → b ≡ length c4.blocks →
     LowersBlock qs (if_holds tst x y) (need (max (max nt.frame nx.frame) ny.frame) (4 + (nt.code + nx.code) + ny.code)) after way c new b
@@ -140,7 +140,7 @@ Block-arm qs px py pt tst x y nt nx ny after second first b way c c1 c2 c3 c4 ne
     move bs a d to ed es le t = subst (λ (l : List Shape). Target bs (length d.blocks) d.depth l to) (sym es) (subst (λ (m : ℕ). Target bs (length d.blocks) m a.stack to) (sym ed) (Target-later bs _ _ a.depth to a.stack le t))
 
 -- what is open goes on to the first arm
-pub If-open : (qs : Bool → List Part) (d : Does Flow) (n : Need) (after second : ℕ) (way : Ways) (c c1 c2 new : Code) → c1 ≡ closed c → after ≡ length c.blocks → LowersBlock qs d n after way c1 c2 second → new ≡ begun (Goto second) [] c2 → LowersStmt qs d (more 2 n) way c new
+pub If-open : (qs : Bool → List TreePart) (d : Does Flow) (n : Need) (after second : ℕ) (way : Ways) (c c1 c2 new : Code) → c1 ≡ closed c → after ≡ length c.blocks → LowersBlock qs d n after way c1 c2 second → new ≡ begun (Goto second) [] c2 → LowersStmt qs d (more 2 n) way c new
 If-open qs d n after second way c c1 c2 new e1 ea l1 en =
     subst (λ z. LowersStmt qs d (more 2 n) way c z) (sym en) (record {
       grew = Grew-trans _ _ _ one l.grew;

@@ -5,7 +5,7 @@ use Rattle.std.proofs.lemmas.List.Folds.{list_all-append}
 use Rattle.std.proofs.Math.Seq.{take-append_seam, drop-append_seam}
 use Rattle.bt_core.specs.declared.map.Shape.{Shape}
 use Rattle.bt_core.specs.declared.value.Value.{Value}
-use Rattle.typed_tree.specs.Parts.{Part}
+use Rattle.typed_tree.specs.Parts.{TreePart}
 use Rattle.typed_tree.specs.Scope.{Scope, fits, all_fit}
 use Rattle.ir_code.specs.Figures.{sizes_of}
 use Rattle.ir_code.specs.Typing.{last_of, front_of}
@@ -38,8 +38,8 @@ pub sizes-append : (a b : List Shape) → sizes_of (a ++ b) ≡ sizes_of a + siz
 sizes-append [] b = omega arith
 sizes-append (s ∷ a) b = omega (arith, sizes-append a b)
 
-pub fit-parts : (s : Scope) (a b : List Part) → all_fit s (a ++ b) ≡ true → (all_fit s a ≡ true) × (all_fit s b ≡ true)
+pub fit-parts : (s : Scope) (a b : List TreePart) → all_fit s (a ++ b) ≡ true → (all_fit s a ≡ true) × (all_fit s b ≡ true)
 fit-parts s a b h = let p = and_parts (all_fit s a) (all_fit s b) (sym (list_all-append (fits s) a b) ∙ h) in (p.0, p.1)
 
-pub fit-head : (s : Scope) (x : Part) (b : List Part) → all_fit s (x ∷ b) ≡ true → (fits s x ≡ true) × (all_fit s b ≡ true)
+pub fit-head : (s : Scope) (x : TreePart) (b : List TreePart) → all_fit s (x ∷ b) ≡ true → (fits s x ≡ true) × (all_fit s b ≡ true)
 fit-head s x b h = let p = and_parts (fits s x) (all_fit s b) h in (p.0, p.1)

@@ -6,7 +6,7 @@ use Rattle.bt_core.specs.declared.ending.Ending.TheVariants.{Cut as AtCut}
 use Rattle.bt_core.specs.declared.map.Shape.TheVariants as shapes
 use Rattle.bt_core.specs.declared.value.Value.{Value}
 use Rattle.bt_core.specs.Interaction.{Interaction, Ended, and_then}
-use Rattle.typed_tree.specs.Parts.{Part}
+use Rattle.typed_tree.specs.Parts.{TreePart}
 use Rattle.typed_tree.specs.Scope.{all_fit}
 use Rattle.walk_meaning.specs.declared.flow.Flow.{Flow}
 use Rattle.walk_meaning.specs.declared.flow.Flow.TheVariants.{Next, Stop}
@@ -33,7 +33,7 @@ use Rattle.bt_lower.proofs.Stmts.{fuel-depth}
 use Rattle.bt_lower.proofs.Turns.{Reaches-cut, Reaches-again, Runs-gate, turn_reaches}
 
 -- the blocks of a loop up to its gate: `c` is what follows the loop, `d` is the code that is made behind the gate, up to the loop's head
-module _ (ps : Bool → List Part) (body : Does Flow) (n : Need) (line block head : ℕ) (c c4 d : Code)
+module _ (ps : Bool → List TreePart) (body : Does Flow) (n : Need) (line block head : ℕ) (c c4 d : Code)
     (lb : LowersBlock ps body n (length (with_cut line (closed c)).blocks) (record { leave = length c.blocks; again = length (with_cut line (closed c)).blocks }) (reserved (with_cut line (closed c))) c4 block)
     (grown : Grew (closed (gated block (length (closed c).blocks) c4)).blocks d.blocks) where
   c1 : Code
@@ -113,7 +113,7 @@ module _ (ps : Bool → List Part) (body : Does Flow) (n : Need) (line block hea
 
 -- ---- `while`: the test stands at the head
 
-module _ (ps : Bool → List Part) (body : Does Flow) (n : Need) (line block : ℕ) (pt : List Part) (tst : Does ℤ) (nt : Need) (c c4 c8 : Code)
+module _ (ps : Bool → List TreePart) (body : Does Flow) (n : Need) (line block : ℕ) (pt : List TreePart) (tst : Does ℤ) (nt : Need) (c c4 c8 : Code)
     (lb : LowersBlock ps body n (length (with_cut line (closed c)).blocks) (record { leave = length c.blocks; again = length (with_cut line (closed c)).blocks }) (reserved (with_cut line (closed c))) c4 block)
     (lt : LowersValue pt (number_value tst) shapes.Int nt (begun (Branch (length c4.blocks) (length c.blocks)) (shapes.Int ∷ []) (closed (gated block (length (closed c).blocks) c4))) c8) where
   abbrev d9 : Code

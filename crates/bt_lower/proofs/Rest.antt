@@ -3,7 +3,7 @@ use Rattle.std.proofs.Common.{◌≡◌, ℕ, zero, suc, ◌≤◌, ◌<◌, ◌
 use Rattle.std.proofs.lemmas.List.{drop_all}
 use Rattle.typed_tree.specs.declared.stmt.TypedBlock.{TypedBlock, fold_out-TypedBlock, out-TypedBlock}
 use Rattle.typed_tree.specs.declared.stmt.TypedStmt.{TypedStmt}
-use Rattle.typed_tree.specs.Parts.{Part, stmt_parts, block_parts, joined, Ending}
+use Rattle.typed_tree.specs.Parts.{TreePart, stmt_parts, block_parts, joined, Ending}
 use Rattle.typed_tree.specs.Parts.{stmt_layer, block_layer}
 use Rattle.walk_meaning.specs.declared.flow.Flow.{Flow}
 use Rattle.walk_meaning.specs.Does.{Does}
@@ -17,7 +17,7 @@ use Rattle.bt_lower.specs.Needs.{stmt_need_by_parts, block_need_by_parts}
 use Rattle.bt_lower.proofs.Lists.{fit-parts}
 use Rattle.bt_lower.proofs.Stmts.{Stmt-fit, Lowers-none, Lowers-then}
 
-abbrev rest_parts : List TypedStmt → Bool → List Part
+abbrev rest_parts : List TypedStmt → Bool → List TreePart
 rest_parts ss inside = joined (map (λ (s : TypedStmt). stmt_parts s inside) ss)
 
 -- the new code does these statements of the tree
@@ -39,12 +39,12 @@ Rest-next ss (suc n) s way c c1 new some le is ls l =
     (subst (λ (x : List TypedStmt). LowersRest x way c new) (ap (λ (x : TypedStmt). x ∷ drop (suc n) ss) at ∙ sym (drop-cons ss n s (omega arith)))
     (Rest-more s (drop (suc n) ss) way c c1 new ls l))
 
-insides : (inside : Bool) (ss : List TypedStmt) → map (λ (k : Bool → List Part). k inside) (map stmt_parts ss) ≡ map (λ (s : TypedStmt). stmt_parts s inside) ss
+insides : (inside : Bool) (ss : List TypedStmt) → map (λ (k : Bool → List TreePart). k inside) (map stmt_parts ss) ≡ map (λ (s : TypedStmt). stmt_parts s inside) ss
 insides inside [] = refl
-insides inside (s ∷ ss) = ap (λ (l : List (List Part)). stmt_parts s inside ∷ l) (insides inside ss)
+insides inside (s ∷ ss) = ap (λ (l : List (List TreePart)). stmt_parts s inside ∷ l) (insides inside ss)
 
 pub Block-parts : (b : TypedBlock) → block_parts b ≡ (λ (inside : Bool). rest_parts (out-TypedBlock b).stmts inside ++ Ending ∷ [])
-Block-parts b = fold_out-TypedBlock (Bool → List Part) (Bool → List Part) stmt_layer block_layer b ∙ (λ j inside. ap (λ (l : List (List Part)). joined l ++ Ending ∷ []) (insides inside (out-TypedBlock b).stmts) j)
+Block-parts b = fold_out-TypedBlock (Bool → List TreePart) (Bool → List TreePart) stmt_layer block_layer b ∙ (λ j inside. ap (λ (l : List (List TreePart)). joined l ++ Ending ∷ []) (insides inside (out-TypedBlock b).stmts) j)
 
 pub Block-need : (b : TypedBlock) → block_need b ≡ all_need (map stmt_need (out-TypedBlock b).stmts)
 Block-need b = fold_out-TypedBlock Need Need stmt_need_by_parts block_need_by_parts b
@@ -54,10 +54,10 @@ pub Rest-end : (b : TypedBlock) (ss : List TypedStmt) (left : ℕ) (way : Ways) 
 Rest-end b ss left way c new e es l0 =
     let l = subst (λ (x : List TypedStmt). LowersRest x way c new) es (subst (λ (n : ℕ). LowersRest (drop n ss) way c new) e l0) in
     let ps = rest_parts (out-TypedBlock b).stmts in
-    let qs : Bool → List Part = λ inside. ps inside ++ Ending ∷ [] in
+    let qs : Bool → List TreePart = λ inside. ps inside ++ Ending ∷ [] in
     let d = in_sequence (map stmt_does (out-TypedBlock b).stmts) in
     let n = all_need (map stmt_need (out-TypedBlock b).stmts) in
-    subst (λ (q : Bool → List Part). LowersStmt q (block_does b) (block_need b) way c new) (sym (Block-parts b))
+    subst (λ (q : Bool → List TreePart). LowersStmt q (block_does b) (block_need b) way c new) (sym (Block-parts b))
     (subst (λ (q : Does Flow). LowersStmt qs q (block_need b) way c new) (sym (block-does b))
     (subst (λ (q : Need). LowersStmt qs d q way c new) (sym (Block-need b))
     (Stmt-fit ps qs d n way c new (λ s inside f. (fit-parts s (ps inside) (Ending ∷ []) f).0) l)))

@@ -24,7 +24,7 @@ use Rattle.typed_tree.specs.declared.expr.AnyExpr.{AnyExpr}
 use Rattle.typed_tree.specs.declared.expr.NumExpr.{NumExpr}
 use Rattle.typed_tree.specs.declared.stmt.TypedStmt.{TypedStmt}
 use Rattle.typed_tree.specs.declared.stmt.TypedStmt.TheVariants as stmts
-use Rattle.typed_tree.specs.Parts.{Part, made_of, num_parts, parts_in, key_shapes, keyed_parts, set_var_parts, set_map_parts, update_var_parts, update_map_parts, gather_parts, printf_parts, delete_parts, stmt_parts, Assigned, VarOf, MapOf, Gathered, Deleted, Printed, Shown, Cleared, Zeroed, Ending}
+use Rattle.typed_tree.specs.Parts.{TreePart, made_of, num_parts, parts_in, key_shapes, keyed_parts, set_var_parts, set_map_parts, update_var_parts, update_map_parts, gather_parts, printf_parts, delete_parts, stmt_parts, Assigned, VarOf, MapOf, Gathered, Deleted, Printed, Shown, Cleared, Zeroed, Ending}
 use Rattle.typed_tree.specs.Scope.{decl_of, is_declared, is_shared, is_agg, is_there, same_kind, same_shapes, same_bool, is_count, format_of, takes, may_print}
 use Rattle.walk_meaning.specs.declared.flow.Flow.{Flow}
 use Rattle.walk_meaning.specs.Does.{Does, given}
@@ -36,7 +36,7 @@ use Rattle.map_ops.specs.Holders.{part}
 use Rattle.map_ops.specs.Asking.{tells}
 use Rattle.ir_code.specs.Figures.{sizes_of, by_shape}
 use Rattle.ir_code.specs.Meaning.{updated}
-use Rattle.ir_code.specs.Typing.{is_key, gathers, is_format}
+use Rattle.ir_code.specs.Typing.{is_key_shape, gathers, is_format}
 use Rattle.ir_code.specs.Stacks.{top, below}
 use Rattle.map_ops.specs.Values.{number_of}
 use Rattle.ir_code.proofs.Shaped.{same_shapes-is}
@@ -55,10 +55,10 @@ use Rattle.bt_lower.proofs.Maps.{map_names, few-key}
 use Rattle.bt_lower.proofs.Stmts.{Stmt-less, Lowers-act}
 use Rattle.bt_lower.proofs.Sweeping.{print-acts, clear-acts, zero-acts, there-names}
 
-pub stmt-is : (s x : TypedStmt) (ps : Bool → List Part) (d : Does Flow) (n : Need) (way : Ways) (c new : Code) → s ≡ x → stmt_parts x ≡ ps → stmt_does x ≡ d → stmt_need x ≡ n → LowersStmt ps d n way c new → LowersStmt (stmt_parts s) (stmt_does s) (stmt_need s) way c new
+pub stmt-is : (s x : TypedStmt) (ps : Bool → List TreePart) (d : Does Flow) (n : Need) (way : Ways) (c new : Code) → s ≡ x → stmt_parts x ≡ ps → stmt_does x ≡ d → stmt_need x ≡ n → LowersStmt ps d n way c new → LowersStmt (stmt_parts s) (stmt_does s) (stmt_need s) way c new
 stmt-is s x ps d n way c new hs hp hd hn l =
     subst (λ (y : TypedStmt). LowersStmt (stmt_parts y) (stmt_does y) (stmt_need y) way c new) (sym hs)
-    (subst (λ (q : Bool → List Part). LowersStmt q (stmt_does x) (stmt_need x) way c new) (sym hp)
+    (subst (λ (q : Bool → List TreePart). LowersStmt q (stmt_does x) (stmt_need x) way c new) (sym hp)
     (subst (λ (q : Does Flow). LowersStmt ps q (stmt_need x) way c new) (sym hd)
     (subst (λ (q : Need). LowersStmt ps d q way c new) (sym hn) l)))
 
@@ -66,7 +66,7 @@ stmt-is s x ps d n way c new hs hp hd hn l =
 
 pub T-SetVar : (s : TypedStmt) (x : ℕ) (v : AnyExpr) (shape : Shape) (way : Ways) (c c1 new : Code) → s ≡ stmts.SetVar x v → shape ≡ (made_of v).shape → c1 ≡ pushed (i.Store x shape) c → LowersAny v c1 new → LowersStmt (stmt_parts s) (stmt_does s) (stmt_need s) way c new
 T-SetVar s x v shape way c c1 new hs hx e1 l =
-    let qs : Bool → List Part = λ inside. set_var_parts x (made_of v) in
+    let qs : Bool → List TreePart = λ inside. set_var_parts x (made_of v) in
     stmt-is s (stmts.SetVar x v) qs (set_variable x (value_does v)) (more (by_shape (made_of v).shape 8 24) (value_need v).need) way c new hs (form.SetVar-parts x v) (form.SetVar-does x v) (form.SetVar-need x v)
     (Stmt-less qs (set_variable x (value_does v)) (need (max (value_need v).need.frame (sizes_of ((made_of v).shape ∷ []) + 0)) (by_shape (made_of v).shape 8 24 + (value_need v).need.code)) (more (by_shape (made_of v).shape 8 24) (value_need v).need) way c new
     (max-le (omega arith) (omega (arith, l.lowered.sizes))) (omega arith)
@@ -77,7 +77,7 @@ T-SetVar s x v shape way c c1 new hs hx e1 l =
 
 pub T-UpdateVar : (s : TypedStmt) (x : ℕ) (op : BinOp) (v : NumExpr) (way : Ways) (c c1 new : Code) → s ≡ stmts.UpdateVar x op v → c1 ≡ pushed (i.UpdateVar x op) c → LowersNumber v c1 new → LowersStmt (stmt_parts s) (stmt_does s) (stmt_need s) way c new
 T-UpdateVar s x op v way c c1 new hs e1 l =
-    let qs : Bool → List Part = λ inside. update_var_parts op x (num_parts v) in
+    let qs : Bool → List TreePart = λ inside. update_var_parts op x (num_parts v) in
     stmt-is s (stmts.UpdateVar x op v) qs (update_variable x op (number_does v)) (more 16 (number_need v)) way c new hs (form.UpdateVar-parts x op v) (form.UpdateVar-does x op v) (form.UpdateVar-need x op v)
     (Stmt-less qs (update_variable x op (number_does v)) (need (max (number_need v).frame 8) (16 + (number_need v).code)) (more 16 (number_need v)) way c new
     (max-le (omega arith) (omega (arith, l.sizes))) (omega arith)
@@ -88,7 +88,7 @@ T-UpdateVar s x op v way c c1 new hs e1 l =
 
 pub T-Step : (s : TypedStmt) (v : NumExpr) (way : Ways) (c c1 new : Code) → s ≡ stmts.Step v → c1 ≡ pushed i.Pop c → LowersNumber v c1 new → LowersStmt (stmt_parts s) (stmt_does s) (stmt_need s) way c new
 T-Step s v way c c1 new hs e1 l =
-    let qs : Bool → List Part = λ inside. num_parts v in
+    let qs : Bool → List TreePart = λ inside. num_parts v in
     stmt-is s (stmts.Step v) qs (plain (number_does v)) (number_need v) way c new hs (form.Step-parts v) (form.Step-does v) (form.Step-need v)
     (Stmt-less qs (plain (number_does v)) (need (max (number_need v).frame 8) (0 + (number_need v).code)) (number_need v) way c new (max-le (omega arith) (omega (arith, l.sizes))) (omega arith)
     (Lowers-act qs i.Pop (num_parts v) (number_value (number_does v) ∷ []) (shapes.Int ∷ []) (plain (number_does v)) (λ w vs frame. Ended tt) (λ vs frame a. frame) (number_need v) way c c1 new (step-acts qs (number_does v)) (λ t inside f. (refl, f)) e1 l))
@@ -97,7 +97,7 @@ T-Step s v way c c1 new hs e1 l =
 
 pub T-Print : (s : TypedStmt) (m : MapId) (n : ℕ) (div : ℤ) (way : Ways) (c new : Code) → s ≡ stmts.Print m n div → new ≡ pushed (i.Print m n div) c → LowersStmt (stmt_parts s) (stmt_does s) (stmt_need s) way c new
 T-Print s m n div way c new hs e1 =
-    let qs : Bool → List Part = λ inside. Shown m.0 n div ∷ [] in
+    let qs : Bool → List TreePart = λ inside. Shown m.0 n div ∷ [] in
     stmt-is s (stmts.Print m n div) qs (print m n div) (need 0 16) way c new hs (form.Print-parts m n div) (form.Print-does m n div) (form.Print-need m n div)
     (Stmt-less qs (print m n div) (need (max 0 0) 16) (need 0 16) way c new (omega arith) (omega arith)
     (Lowers-act qs (i.Print m n div) [] [] [] (print m n div) _ (λ vs frame a. frame) (need 0 0) way c new new (print-acts m n div)
@@ -105,7 +105,7 @@ T-Print s m n div way c new hs e1 =
 
 pub T-Clear : (s : TypedStmt) (m : MapId) (way : Ways) (c new : Code) → s ≡ stmts.Clear m → new ≡ pushed (i.Clear m) c → LowersStmt (stmt_parts s) (stmt_does s) (stmt_need s) way c new
 T-Clear s m way c new hs e1 =
-    let qs : Bool → List Part = λ inside. Cleared m.0 ∷ [] in
+    let qs : Bool → List TreePart = λ inside. Cleared m.0 ∷ [] in
     stmt-is s (stmts.Clear m) qs (clear m) (need 0 12) way c new hs (form.Clear-parts m) (form.Clear-does m) (form.Clear-need m)
     (Stmt-less qs (clear m) (need (max 0 0) 12) (need 0 12) way c new (omega arith) (omega arith)
     (Lowers-act qs (i.Clear m) [] [] [] (clear m) _ (λ vs frame a. frame) (need 0 0) way c new new (clear-acts m)
@@ -113,7 +113,7 @@ T-Clear s m way c new hs e1 =
 
 pub T-Zero : (s : TypedStmt) (m : MapId) (way : Ways) (c new : Code) → s ≡ stmts.Zero m → new ≡ pushed (i.Zero m) c → LowersStmt (stmt_parts s) (stmt_does s) (stmt_need s) way c new
 T-Zero s m way c new hs e1 =
-    let qs : Bool → List Part = λ inside. Zeroed m.0 ∷ [] in
+    let qs : Bool → List TreePart = λ inside. Zeroed m.0 ∷ [] in
     stmt-is s (stmts.Zero m) qs (zero_all m) (need 0 12) way c new hs (form.Zero-parts m) (form.Zero-does m) (form.Zero-need m)
     (Stmt-less qs (zero_all m) (need (max 0 0) 12) (need 0 12) way c new (omega arith) (omega arith)
     (Lowers-act qs (i.Zero m) [] [] [] (zero_all m) _ (λ vs frame a. frame) (need 0 0) way c new new (zero-acts m)
@@ -121,7 +121,7 @@ T-Zero s m way c new hs e1 =
 
 -- ---- keys, and values above them
 
-keyed : (m : MapId) (keys : List AnyExpr) (d : Does Value) (ps : List Part) (shape : Shape) (n : Need) (c c1 new : Code) → LowersValue ps d shape n c c1 → LowersList keys c1 new →
+keyed : (m : MapId) (keys : List AnyExpr) (d : Does Value) (ps : List TreePart) (shape : Shape) (n : Need) (c c1 new : Code) → LowersValue ps d shape n c c1 → LowersList keys c1 new →
     LowersParts (parts_in (all_made keys) ++ ps) (values_do keys ++ d ∷ []) (key_shapes (all_made keys) ++ shape ∷ []) (need (beside (values_need keys) n.frame) (codes_in (values_need keys) + n.code)) c new
 keyed m keys d ps shape n c c1 new lv lk =
     Parts-less _ _ _ (need (max (list_frame (values_need keys)) (sizes_of (key_shapes (all_made keys)) + n.frame)) (codes_in (values_need keys) + n.code)) _ c new
@@ -137,7 +137,7 @@ T-SetMap s m keys es v key shape way c c1 c2 new hs he hk hx e1 lv lk0 =
     let ps = parts_in (all_made keys) in
     let vs = (made_of v).parts in
     let vn = (value_need v).need in
-    let qs : Bool → List Part = λ inside. set_map_parts m.0 (all_made keys) (made_of v) in
+    let qs : Bool → List TreePart = λ inside. set_map_parts m.0 (all_made keys) (made_of v) in
     stmt-is s (stmts.SetMap m keys v) qs (set_map m (values_do keys) (value_does v)) (need (beside (values_need keys) vn.frame) (24 + codes_in (values_need keys) + vn.code)) way c new hs (form.SetMap-parts m keys v) (form.SetMap-does m keys v) (form.SetMap-need m keys v)
     (Stmt-less qs (set_map m (values_do keys) (value_does v)) (need (max (beside (values_need keys) vn.frame) (sizes_of (ks ++ sh ∷ []) + 0)) (24 + (codes_in (values_need keys) + vn.code))) _ way c new
     (max-le (omega arith) (omega (arith, sizes-append ks (sh ∷ []), lk.sized, lv.lowered.sizes, le-max_right (list_frame (values_need keys)) (sizes_in (values_need keys) + vn.frame)))) (omega arith)
@@ -154,7 +154,7 @@ T-UpdateMap s m keys es op v key way c c1 c2 new hs he hk e1 lv lk0 =
     let ps = parts_in (all_made keys) in
     let vs = num_parts v in
     let vn = number_need v in
-    let qs : Bool → List Part = λ inside. update_map_parts op m.0 (all_made keys) vs in
+    let qs : Bool → List TreePart = λ inside. update_map_parts op m.0 (all_made keys) vs in
     let a : sizes_in (values_need keys) + max vn.frame 16 ≤ beside (values_need keys) (max vn.frame 16) = le-max_right (list_frame (values_need keys)) (sizes_in (values_need keys) + max vn.frame 16) in
     let b : list_frame (values_need keys) ≤ beside (values_need keys) (max vn.frame 16) = le-max_left (list_frame (values_need keys)) (sizes_in (values_need keys) + max vn.frame 16) in
     let x : vn.frame ≤ max vn.frame 16 = le-max_left vn.frame 16 in
@@ -189,7 +189,7 @@ T-Count s m keys es kind key way c c1 new hs he hk e1 lk0 =
     let lk = subst (λ (x : List AnyExpr). LowersList x c1 new) he lk0 in
     let ks = key_shapes (all_made keys) in
     let ps = parts_in (all_made keys) in
-    let qs : Bool → List Part = λ inside. gather_parts m.0 (all_made keys) kind None in
+    let qs : Bool → List TreePart = λ inside. gather_parts m.0 (all_made keys) kind None in
     stmt-is s (stmts.Gather m keys kind None) qs (gather m (values_do keys) (given (pos 1))) (need (list_frame (values_need keys)) (24 + codes_in (values_need keys))) way c new hs (form.Gather-parts m keys kind None) (form.Gather-does m keys kind None) (form.Gather-need m keys kind None)
     (Stmt-less qs (gather m (values_do keys) (given (pos 1))) (need (max (list_frame (values_need keys)) (sizes_of ks + 0)) (24 + codes_in (values_need keys))) _ way c new (max-le (omega arith) (omega (arith, lk.lowered.sizes))) (omega arith)
     (Lowers-act qs (i.Count m ks) ps (values_do keys) ks (gather m (values_do keys) (given (pos 1))) (λ w us frame. tells (Cpu w.actor) (ops.Add m us (pos 1))) (λ us frame a. frame)
@@ -205,7 +205,7 @@ T-Add s m keys es kind v key way c c1 c2 new hs he hk e1 lv lk0 =
     let ps = parts_in (all_made keys) in
     let vs = num_parts v in
     let vn = number_need v in
-    let qs : Bool → List Part = λ inside. gather_parts m.0 (all_made keys) kind (Some v) in
+    let qs : Bool → List TreePart = λ inside. gather_parts m.0 (all_made keys) kind (Some v) in
     stmt-is s (stmts.Gather m keys kind (Some v)) qs (gather m (values_do keys) (number_does v)) (need (beside (values_need keys) vn.frame) (24 + codes_in (values_need keys) + vn.code)) way c new hs (form.Gather-parts m keys kind (Some v)) (form.Gather-does m keys kind (Some v)) (form.Gather-need m keys kind (Some v))
     (Stmt-less qs (gather m (values_do keys) (number_does v)) (need (max (beside (values_need keys) vn.frame) (sizes_of (ks ++ shapes.Int ∷ []) + 0)) (24 + (codes_in (values_need keys) + vn.code))) _ way c new
     (max-le (omega arith) (omega (arith, sizes-append ks (shapes.Int ∷ []), lk.sized, lv.sizes, le-max_right (list_frame (values_need keys)) (sizes_in (values_need keys) + vn.frame)))) (omega arith)
@@ -216,7 +216,7 @@ T-Add s m keys es kind v key way c c1 c2 new hs he hk e1 lv lk0 =
 
 -- ---- what stands under a key is taken away, and values are printed
 
-shared-case : (t : Site) (n : ℕ) (key : List Shape) (o : Option MapDecl) → decl_of n t.scope.maps ≡ o → is_shared o key ≡ true → (is_key key && is_shared (slice_get t.ground.maps n) key) ≡ true
+shared-case : (t : Site) (n : ℕ) (key : List Shape) (o : Option MapDecl) → decl_of n t.scope.maps ≡ o → is_shared o key ≡ true → (is_key_shape key && is_shared (slice_get t.ground.maps n) key) ≡ true
 shared-case t n key None e h = cc
 shared-case t n key (Some decl) e h =
     let p = and_parts _ (same_shapes decl.key_shape key) h in
@@ -230,7 +230,7 @@ T-Delete s m keys es key way c c1 new hs he hk e1 lk0 =
     let lk = subst (λ (x : List AnyExpr). LowersList x c1 new) he lk0 in
     let ks = key_shapes (all_made keys) in
     let ps = parts_in (all_made keys) in
-    let qs : Bool → List Part = λ inside. delete_parts m.0 (all_made keys) in
+    let qs : Bool → List TreePart = λ inside. delete_parts m.0 (all_made keys) in
     stmt-is s (stmts.Delete m keys) qs (delete_at m (values_do keys)) (need (list_frame (values_need keys)) (16 + codes_in (values_need keys))) way c new hs (form.Delete-parts m keys) (form.Delete-does m keys) (form.Delete-need m keys)
     (Stmt-less qs (delete_at m (values_do keys)) (need (max (list_frame (values_need keys)) (sizes_of ks + 0)) (16 + codes_in (values_need keys))) _ way c new (max-le (omega arith) (omega (arith, lk.lowered.sizes))) (omega arith)
     (Lowers-act qs (i.Delete m ks) ps (values_do keys) ks (delete_at m (values_do keys)) (λ w us frame. tells (part m us) (ops.Delete us)) (λ us frame a. frame)
@@ -248,7 +248,7 @@ T-Printf s format values es key way c c1 new hs he hk e1 lk0 =
     let lk = subst (λ (x : List AnyExpr). LowersList x c1 new) he lk0 in
     let ks = key_shapes (all_made values) in
     let ps = parts_in (all_made values) in
-    let qs : Bool → List Part = λ inside. printf_parts format (all_made values) in
+    let qs : Bool → List TreePart = λ inside. printf_parts format (all_made values) in
     stmt-is s (stmts.Printf format values) qs (printf format (values_do values)) (need (list_frame (values_need values)) (16 + codes_in (values_need values))) way c new hs (form.Printf-parts format values) (form.Printf-does format values) (form.Printf-need format values)
     (Stmt-less qs (printf format (values_do values)) (need (max (list_frame (values_need values)) (sizes_of ks + 0)) (16 + codes_in (values_need values))) _ way c new (max-le (omega arith) (omega (arith, lk.lowered.sizes))) (omega arith)
     (Lowers-act qs (i.Printf format ks) ps (values_do values) ks (printf format (values_do values)) (λ w us frame. tells Out (ops.Emit (items.Printf format us))) (λ us frame a. frame)

@@ -8,7 +8,7 @@ use Rattle.bt_core.specs.declared.map.Shape.{Shape}
 use Rattle.bt_core.specs.declared.value.Value.{Value}
 use Rattle.bt_core.specs.Interaction.{Interaction, Ended, and_then}
 use Rattle.bt_core.proofs.InteractionLaws.{and_then_assoc}
-use Rattle.typed_tree.specs.Parts.{Part}
+use Rattle.typed_tree.specs.Parts.{TreePart}
 use Rattle.typed_tree.specs.Scope.{Scope, all_fit}
 use Rattle.walk_meaning.specs.declared.flow.Flow.{Flow}
 use Rattle.walk_meaning.specs.declared.flow.Flow.TheVariants.{Next, Break, Continue, Stop}
@@ -55,7 +55,7 @@ Follows-less bs way c most scene turns fewer values k le f = record {
   stop = f.stop;
 }
 
-pub Stmt-less : (ps : Bool → List Part) (d : Does Flow) (n m : Need) (way : Ways) (old new : Code) → n.frame ≤ m.frame → n.code ≤ m.code → LowersStmt ps d n way old new → LowersStmt ps d m way old new
+pub Stmt-less : (ps : Bool → List TreePart) (d : Does Flow) (n m : Need) (way : Ways) (old new : Code) → n.frame ≤ m.frame → n.code ≤ m.code → LowersStmt ps d n way old new → LowersStmt ps d m way old new
 Stmt-less ps d n m way old new hf hc l = record {
   grew = l.grew;
   depth = l.depth;
@@ -65,7 +65,7 @@ Stmt-less ps d n m way old new hf hc l = record {
   sound = λ bs stand t inside fits room ways o. l.sound bs stand t inside fits (Room-less t.ground _ _ (omega arith) room) ways o;
 }
 
-pub Stmt-fit : (ps qs : Bool → List Part) (d : Does Flow) (n : Need) (way : Ways) (old new : Code) → ((s : Scope) (inside : Bool) → all_fit s (qs inside) ≡ true → all_fit s (ps inside) ≡ true) → LowersStmt ps d n way old new → LowersStmt qs d n way old new
+pub Stmt-fit : (ps qs : Bool → List TreePart) (d : Does Flow) (n : Need) (way : Ways) (old new : Code) → ((s : Scope) (inside : Bool) → all_fit s (qs inside) ≡ true → all_fit s (ps inside) ≡ true) → LowersStmt ps d n way old new → LowersStmt qs d n way old new
 Stmt-fit ps qs d n way old new f l = record {
   grew = l.grew;
   depth = l.depth;
@@ -78,7 +78,7 @@ Stmt-fit ps qs d n way old new f l = record {
 -- ---- an instruction behind its operands
 
 -- what an instruction does with values that are there: it asks, and the frame is another
-pub record Acts (qs : Bool → List Part) (i : Instr) (ds : List (Does Value)) (ss : List Shape) (d : Does Flow) {A : Type 0} (t : BodyScene → List Value → Frame → Interaction A) (fr : List Value → Frame → A → Frame) : Type 0 where
+pub record Acts (qs : Bool → List TreePart) (i : Instr) (ds : List (Does Value)) (ss : List Shape) (d : Does Flow) {A : Type 0} (t : BodyScene → List Value → Frame → Interaction A) (fr : List Value → Frame → A → Frame) : Type 0 where
   pub takes_them : operand_shapes i ≡ ss
   pub reads_none : end_read i ≡ 0
   pub gives_none : gives i ≡ []
@@ -87,7 +87,7 @@ pub record Acts (qs : Bool → List Part) (i : Instr) (ds : List (Does Value)) (
       instr_run i (seen_by s.ground.maps w) (state frame (values ++ vs)) ≡ and_then (t w vs frame) (λ a. Ended (state (fr vs frame a) values))
   pub turns : (vs : List Value) (frame : Frame) (a : A) → (fr vs frame a).turns ≡ frame.turns
 
-pub Lowers-act : {A : Type 0} (qs : Bool → List Part) (i : Instr) (ps : List Part) (ds : List (Does Value)) (ss : List Shape) (d : Does Flow) (t : BodyScene → List Value → Frame → Interaction A) (fr : List Value → Frame → A → Frame) (n : Need) (way : Ways) (c c1 new : Code) →
+pub Lowers-act : {A : Type 0} (qs : Bool → List TreePart) (i : Instr) (ps : List TreePart) (ds : List (Does Value)) (ss : List Shape) (d : Does Flow) (t : BodyScene → List Value → Frame → Interaction A) (fr : List Value → Frame → A → Frame) (n : Need) (way : Ways) (c c1 new : Code) →
     Acts qs i ds ss d t fr → ((s : Site) (inside : Bool) → all_fit s.scope (qs inside) ≡ true → (names (ground_in s.ground) i ≡ true) × (all_fit s.scope ps ≡ true)) → c1 ≡ pushed i c → LowersParts ps ds ss n c1 new →
     LowersStmt qs d (need (max n.frame (sizes_of ss + instr_bytes i)) (instr_slots i + n.code)) way c new
 Lowers-act qs i ps ds ss d t fr n way c c1 new ac named e1 l1 = record {
@@ -126,10 +126,10 @@ Lowers-act qs i ps ds ss d t fr n way c c1 new ac named e1 l1 = record {
 
 -- ---- statements that go elsewhere
 
-abbrev Goes : (flow : Flow) (qs : Bool → List Part) (x : Exit) (n : Need) (way : Ways) (c : Code) → Type 0
+abbrev Goes : (flow : Flow) (qs : Bool → List TreePart) (x : Exit) (n : Need) (way : Ways) (c : Code) → Type 0
 Goes flow qs x n way c = LowersStmt qs (given flow) n way c (begun x [] c)
 
-Lowers-goes : (flow : Flow) (qs : Bool → List Part) (x : Exit) (n : Need) (way : Ways) (c : Code) → code_slots (begun x [] c) ≤ code_slots c + n.code →
+Lowers-goes : (flow : Flow) (qs : Bool → List TreePart) (x : Exit) (n : Need) (way : Ways) (c : Code) → code_slots (begun x [] c) ≤ code_slots c + n.code →
     ((bs : List Block) (most : ℕ) (scene : Scene) (frame : Frame) (values : List Value) (k : (Flow × Frame) → Interaction Ending) → Follows bs way c most scene frame.turns values k → Runs bs (begun x [] c) (fuel most c frame.turns) scene (state frame values) (k (flow, frame))) →
     ((bs : List Block) (t : Site) → HasRoom t.ground (sizes_of c.stack) → WaysStand bs way.leave way.again c → Opens t.ground bs (begun x [] c)) → Goes flow qs x n way c
 unfolding given
@@ -148,13 +148,13 @@ none-room t c r = subst (λ (l : List Shape). HasRoom t.ground (sizes_of l)) (sy
 none-target : (bs : List Block) (c : Code) (to : ℕ) → Target bs (length c.blocks) c.depth c.stack to → Target bs (length c.blocks) c.depth (c.stack ++ []) to
 none-target bs c to t = subst (λ (l : List Shape). Target bs (length c.blocks) c.depth l to) (sym (append-nil c.stack)) t
 
-pub Lowers-break : (qs : Bool → List Part) (way : Ways) (c new : Code) → new ≡ begun (Goto way.leave) [] c → LowersStmt qs (given Break) (need 0 4) way c new
+pub Lowers-break : (qs : Bool → List TreePart) (way : Ways) (c new : Code) → new ≡ begun (Goto way.leave) [] c → LowersStmt qs (given Break) (need 0 4) way c new
 Lowers-break qs way c new e = subst (λ x. LowersStmt qs (given Break) (need 0 4) way c x) (sym e)
     (Lowers-goes Break qs (Goto way.leave) (need 0 4) way c (omega (arith, slots-begun (Goto way.leave) [] c))
     (λ bs most scene frame values k f. Runs-goto bs c way.leave _ [] scene _ _ (f.leave frame (omega arith)))
     (λ bs t room ways. Opens-goto t.ground bs c [] way.leave (none-room t c room) (none-target bs c way.leave ways.leaves)))
 
-pub Lowers-continue : (qs : Bool → List Part) (way : Ways) (c new : Code) → new ≡ begun (Goto way.again) [] c → LowersStmt qs (given Continue) (need 0 4) way c new
+pub Lowers-continue : (qs : Bool → List TreePart) (way : Ways) (c new : Code) → new ≡ begun (Goto way.again) [] c → LowersStmt qs (given Continue) (need 0 4) way c new
 Lowers-continue qs way c new e = subst (λ x. LowersStmt qs (given Continue) (need 0 4) way c x) (sym e)
     (Lowers-goes Continue qs (Goto way.again) (need 0 4) way c (omega (arith, slots-begun (Goto way.again) [] c))
     (λ bs most scene frame values k f. Runs-goto bs c way.again _ [] scene _ _ (f.again frame (omega arith)))
@@ -163,13 +163,13 @@ Lowers-continue qs way c new e = subst (λ x. LowersStmt qs (given Continue) (ne
 Opens-end : (bs : List Block) (t : Site) (c : Code) (ending : Ending) → HasRoom t.ground (sizes_of c.stack) → Opens t.ground bs (begun (End ending) [] c)
 Opens-end bs t c ending room = record { after = c.stack ++ []; turns = (refl, none-room t c room); leads = tt }
 
-pub Lowers-return : (qs : Bool → List Part) (way : Ways) (c new : Code) → new ≡ begun (End Return) [] c → LowersStmt qs (given (Stop Return)) (need 0 4) way c new
+pub Lowers-return : (qs : Bool → List TreePart) (way : Ways) (c new : Code) → new ≡ begun (End Return) [] c → LowersStmt qs (given (Stop Return)) (need 0 4) way c new
 Lowers-return qs way c new e = subst (λ x. LowersStmt qs (given (Stop Return)) (need 0 4) way c x) (sym e)
     (Lowers-goes (Stop Return) qs (End Return) (need 0 4) way c (omega (arith, slots-begun (End Return) [] c))
     (λ bs most scene frame values k f. record { by = λ m h. sym (f.stop Return frame) })
     (λ bs t room ways. Opens-end bs t c Return room))
 
-pub Lowers-exit : (qs : Bool → List Part) (way : Ways) (c c1 new : Code) → c1 ≡ begun (End Exited) [] c → new ≡ pushed i.Stop c1 → LowersStmt qs (jump_to jumps.Exit) (need 0 12) way c new
+pub Lowers-exit : (qs : Bool → List TreePart) (way : Ways) (c c1 new : Code) → c1 ≡ begun (End Exited) [] c → new ≡ pushed i.Stop c1 → LowersStmt qs (jump_to jumps.Exit) (need 0 12) way c new
 unfolding given bind lifted
 Lowers-exit qs way c c1 new e1 e =
     subst (λ x. LowersStmt qs (jump_to jumps.Exit) (need 0 12) way c x) (sym (e ∙ ap (pushed i.Stop) e1)) (record {
@@ -186,7 +186,7 @@ Lowers-exit qs way c c1 new e1 e =
 
 -- ---- statements one after another
 
-pub Lowers-none : (qs : Bool → List Part) (way : Ways) (c : Code) → LowersStmt qs (in_sequence []) (need 0 0) way c c
+pub Lowers-none : (qs : Bool → List TreePart) (way : Ways) (c : Code) → LowersStmt qs (in_sequence []) (need 0 0) way c c
 unfolding given
 Lowers-none qs way c = record {
   grew = Grew-refl c.blocks;
@@ -203,7 +203,7 @@ WaysStand-on bs leave again c d ed es le w = record { leaves = move leave w.leav
     move : (to : ℕ) → Target bs (length c.blocks) c.depth c.stack to → Target bs (length d.blocks) d.depth d.stack to
     move to t = subst (λ (l : List Shape). Target bs (length d.blocks) d.depth l to) (sym es) (subst (λ (m : ℕ). Target bs (length d.blocks) m c.stack to) (sym ed) (Target-later bs _ _ c.depth to c.stack le t))
 
-pub Lowers-then : (ps qs rs : Bool → List Part) (d : Does Flow) (ds : List (Does Flow)) (n m : Need) (way : Ways) (c c1 new : Code) →
+pub Lowers-then : (ps qs rs : Bool → List TreePart) (d : Does Flow) (ds : List (Does Flow)) (n m : Need) (way : Ways) (c c1 new : Code) →
     ((s : Scope) (inside : Bool) → all_fit s (rs inside) ≡ true → (all_fit s (ps inside) ≡ true) × (all_fit s (qs inside) ≡ true)) →
     LowersStmt qs (in_sequence ds) m way c c1 → LowersStmt ps d n way c1 new → LowersStmt rs (in_sequence (d ∷ ds)) (greater n m) way c new
 unfolding bind given
@@ -233,7 +233,7 @@ Lowers-then ps qs rs d ds n m way c c1 new fit lg lf = record {
 
 -- ---- a block of its own
 
-pub Lowers-into : (ps : Bool → List Part) (d : Does Flow) (n : Need) (after : ℕ) (way : Ways) (c c0 c1 new : Code) (b : ℕ) → c0 ≡ begun (Goto after) [] c → LowersStmt ps d n way c0 c1 → new ≡ closed c1 → b ≡ length c1.blocks → LowersBlock ps d n after way c new b
+pub Lowers-into : (ps : Bool → List TreePart) (d : Does Flow) (n : Need) (after : ℕ) (way : Ways) (c c0 c1 new : Code) (b : ℕ) → c0 ≡ begun (Goto after) [] c → LowersStmt ps d n way c0 c1 → new ≡ closed c1 → b ≡ length c1.blocks → LowersBlock ps d n after way c new b
 Lowers-into ps d n after way c c0 c1 new b e0 l0 en eb =
     let l = subst (λ x. LowersStmt ps d n way x c1) e0 l0 in
     let same : c1.stack ≡ c.stack = l.stack ∙ append-nil c.stack in

@@ -8,7 +8,7 @@ use Rattle.bt_core.specs.declared.map.Shape.TheVariants as shapes
 use Rattle.bt_core.specs.declared.value.Value.{Value}
 use Rattle.bt_core.specs.declared.value.Value.TheVariants.{Int}
 use Rattle.bt_core.specs.Interaction.{Interaction, Ended, and_then}
-use Rattle.typed_tree.specs.Parts.{Part}
+use Rattle.typed_tree.specs.Parts.{TreePart}
 use Rattle.typed_tree.specs.Scope.{Scope, all_fit}
 use Rattle.walk_meaning.specs.declared.flow.Flow.{Flow}
 use Rattle.walk_meaning.specs.declared.flow.Flow.TheVariants.{Next, Stop}
@@ -57,7 +57,7 @@ Runs-pop bs c n scene frame values v u r =
 abbrev pub counting : ℕ → ℕ → Code → Code → Code
 counting line block c c4 = begun (Count (length c4.blocks) (length c.blocks)) [] (closed (gated block (length (closed c).blocks) c4))
 
-module _ (ps : Bool → List Part) (body : Does Flow) (n : Need) (line block : ℕ) (c c4 : Code)
+module _ (ps : Bool → List TreePart) (body : Does Flow) (n : Need) (line block : ℕ) (c c4 : Code)
     (lb : LowersBlock ps body n (length (with_cut line (closed c)).blocks) (record { leave = length c.blocks; again = length (with_cut line (closed c)).blocks }) (reserved (with_cut line (closed c))) c4 block) where
   pub grown9 : Grew (closed (gated block (length (closed c).blocks) c4)).blocks (closed (counting line block c c4)).blocks
   grown9 = Grew-one (closed (gated block (length (closed c).blocks) c4)).blocks (open_block (counting line block c c4))
@@ -95,7 +95,7 @@ abbrev pub unrolled : ℕ → ℕ → ℕ → Code → Code → Code
 unrolled count line block c c4 =
     pushed (i.Put (Int (pos count))) (patched (length (with_cut line (closed c)).blocks) (length (counting line block c c4).blocks) (closed (counting line block c c4)))
 
-module _ (qs ps : Bool → List Part) (body : Does Flow) (n : Need) (count line block : ℕ) (way : Ways) (c0 c4 : Code)
+module _ (qs ps : Bool → List TreePart) (body : Does Flow) (n : Need) (count line block : ℕ) (way : Ways) (c0 c4 : Code)
     (fit : (s : Scope) (inside : Bool) → all_fit s (qs inside) ≡ true → all_fit s (ps true) ≡ true)
     (lb : LowersBlock ps body n (length (with_cut line (closed (pushed i.Pop c0))).blocks) (record { leave = length c0.blocks; again = length (with_cut line (closed (pushed i.Pop c0))).blocks }) (reserved (with_cut line (closed (pushed i.Pop c0)))) c4 block) where
   abbrev c : Code

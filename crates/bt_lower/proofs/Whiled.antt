@@ -4,7 +4,7 @@ use Rattle.bt_core.specs.declared.map.Shape.TheVariants as shapes
 use Rattle.typed_tree.specs.declared.expr.NumExpr.{NumExpr}
 use Rattle.typed_tree.specs.declared.stmt.TypedBlock.{TypedBlock}
 use Rattle.typed_tree.specs.declared.stmt.TypedStmt.TheVariants as stmts
-use Rattle.typed_tree.specs.Parts.{Part, num_parts, block_parts, Looped}
+use Rattle.typed_tree.specs.Parts.{TreePart, num_parts, block_parts, Looped}
 use Rattle.typed_tree.specs.Scope.{Scope, all_fit}
 use Rattle.walk_meaning.specs.Exprs.{number_does}
 use Rattle.walk_meaning.specs.Stmts.{block_does, while_true}
@@ -29,7 +29,7 @@ T-While t block line leave cut again turn first head way c c1 c2 c3 c4 c5 c6 c7 
     (subst (λ (x : Code). LowersStmt qs (while_true line (number_does t) (block_does block)) (more 24 (greater (number_need t) (block_need block))) way c x) (sym made)
     (Lowers-loop qs (block_parts block) (num_parts t) (block_does block) (number_does t) (block_need block) (number_need t) line turn way c c4 c8 fit inside tested))
   where
-    qs : Bool → List Part
+    qs : Bool → List TreePart
     qs = λ inside. Looped line ∷ (num_parts t ++ block_parts block true)
 
     fit : (s : Scope) (inside : Bool) → all_fit s (qs inside) ≡ true → (all_fit s (num_parts t) ≡ true) × (all_fit s (block_parts block true) ≡ true)

@@ -5,7 +5,7 @@ use Rattle.std.proofs.Math.Nat.{le-max_left, le-max_right}
 use Rattle.bt_core.specs.declared.ending.Ending.TheVariants.{Cut as AtCut}
 use Rattle.bt_core.specs.declared.map.Shape.{Shape}
 use Rattle.bt_core.specs.declared.map.Shape.TheVariants as shapes
-use Rattle.typed_tree.specs.Parts.{Part}
+use Rattle.typed_tree.specs.Parts.{TreePart}
 use Rattle.typed_tree.specs.Scope.{Scope, all_fit}
 use Rattle.walk_meaning.specs.declared.flow.Flow.{Flow}
 use Rattle.walk_meaning.specs.declared.flow.Flow.TheVariants.{Next}
@@ -55,7 +55,7 @@ cut-target bs line m depth c stand lt le =
 pub placed : (x : Code) (ys : List Block) → Grew (reserved x).blocks ys → slice_get ys (length x.blocks) ≡ Some (placeholder x)
 placed x ys g = ap (λ l. slice_get l (length x.blocks)) g.is ∙ slice_get-append (reserved x).blocks g.more (length x.blocks) (omega (arith, length-append x.blocks (placeholder x ∷ []))) ∙ slice_get-seam x.blocks [] (placeholder x)
 
-pub Lowers-loop : (qs ps : Bool → List Part) (pt : List Part) (body : Does Flow) (tst : Does ℤ) (n nt : Need) (line block : ℕ) (way : Ways) (c c4 c8 : Code) →
+pub Lowers-loop : (qs ps : Bool → List TreePart) (pt : List TreePart) (body : Does Flow) (tst : Does ℤ) (n nt : Need) (line block : ℕ) (way : Ways) (c c4 c8 : Code) →
     ((s : Scope) (inside : Bool) → all_fit s (qs inside) ≡ true → (all_fit s pt ≡ true) × (all_fit s (ps true) ≡ true)) →
     LowersBlock ps body n (length (with_cut line (closed c)).blocks) (record { leave = length c.blocks; again = length (with_cut line (closed c)).blocks }) (reserved (with_cut line (closed c))) c4 block →
     LowersValue pt (number_value tst) shapes.Int nt (begun (Branch (length c4.blocks) (length c.blocks)) (shapes.Int ∷ []) (closed (gated block (length (closed c).blocks) c4))) c8 →

@@ -13,7 +13,7 @@ use Rattle.bt_core.specs.Arithmetic.{binary_value, unary_value, truth}
 use Rattle.bt_core.specs.Interaction.{Ended}
 use Rattle.bt_core.proofs.InteractionLaws.{and_then_assoc}
 use Rattle.typed_tree.specs.declared.expr.NumBuiltin.{NumBuiltin}
-use Rattle.typed_tree.specs.Parts.{Part, Joined, Prefixed, Both}
+use Rattle.typed_tree.specs.Parts.{TreePart, Joined, Prefixed, Both}
 use Rattle.typed_tree.specs.Scope.{fits}
 use Rattle.walk_meaning.specs.declared.flow.Frame.{Frame}
 use Rattle.walk_meaning.specs.Does.{Does, given, looked_at, bind}
@@ -59,7 +59,7 @@ Leaf x shape d val fr tk gv ft is runs turns = record {
   turns = λ vs frame a. turns frame;
 }
 
-pub Lowers-leaf : (x : Instr) (head : Part) (shape : Shape) (d : Does Value) (val : BodyScene → Frame → Value) (fr : Frame → Frame) (n : Need) (c new : Code) → operand_shapes x ≡ [] → gives x ≡ shape ∷ [] → sizes_of (shape ∷ []) ≤ instr_bytes x →
+pub Lowers-leaf : (x : Instr) (head : TreePart) (shape : Shape) (d : Does Value) (val : BodyScene → Frame → Value) (fr : Frame → Frame) (n : Need) (c new : Code) → operand_shapes x ≡ [] → gives x ≡ shape ∷ [] → sizes_of (shape ∷ []) ≤ instr_bytes x →
     ((w : BodyScene) (frame : Frame) → d w frame ≡ Ended (val w frame, fr frame)) →
     ((maps : List MapDecl) (w : BodyScene) (frame : Frame) (values : List Value) → instr_run x (seen_by maps w) (state frame values) ≡ Ended (state (fr frame) (values ++ val w frame ∷ []))) →
     ((frame : Frame) → (fr frame).turns ≡ frame.turns) → ((s : Site) → fits s.scope head ≡ true → names (ground_in s.ground) x ≡ true) → ((s : Site) → fits s.scope head ≡ true → end_read x ≤ s.ground.payload) → instr_bytes x ≤ n.frame → instr_slots x ≤ n.code → new ≡ pushed x c → LowersValue (head ∷ []) d shape n c new
@@ -68,19 +68,19 @@ Lowers-leaf x head shape d val fr n c new tk gv ft is runs turns named reads hf 
     (Parts-put x [] head [] [] shape d (λ w vs frame. Ended tt) (λ w vs frame a. val w frame) (λ vs frame a. fr frame) (need 0 0) c new new
     (Leaf x shape d val fr tk gv ft is runs turns) (λ s f. let p = fit-head s.scope head [] f in (named s p.0, p.1)) (λ s f. reads s (fit-head s.scope head [] f).0) e (Parts-none new))
 
-pub Lowers-number : (z : ℤ) (head : Part) (c new : Code) → new ≡ pushed (i.Put (Int z)) c → LowersValue (head ∷ []) (number_value (given z)) shapes.Int (need 8 4) c new
+pub Lowers-number : (z : ℤ) (head : TreePart) (c new : Code) → new ≡ pushed (i.Put (Int z)) c → LowersValue (head ∷ []) (number_value (given z)) shapes.Int (need 8 4) c new
 unfolding given bind
 Lowers-number z head c new e = Lowers-leaf (i.Put (Int z)) head shapes.Int (number_value (given z)) (λ w frame. Int z) (λ frame. frame) (need 8 4) c new refl refl (omega arith) (λ w frame. refl) (λ maps w frame values. refl) (λ frame. refl) (λ s f. refl) (λ s f. none-read s.ground.payload) (omega arith) (omega arith) e
 
-pub Lowers-literal : (s : List ℕ) (head : Part) (c new : Code) → new ≡ pushed (i.Put (Str s)) c → LowersValue (head ∷ []) (text_value (given s)) shapes.Str (need 64 32) c new
+pub Lowers-literal : (s : List ℕ) (head : TreePart) (c new : Code) → new ≡ pushed (i.Put (Str s)) c → LowersValue (head ∷ []) (text_value (given s)) shapes.Str (need 64 32) c new
 unfolding given bind
 Lowers-literal s head c new e = Lowers-leaf (i.Put (Str s)) head shapes.Str (text_value (given s)) (λ w frame. Str s) (λ frame. frame) (need 64 32) c new refl refl (omega arith) (λ w frame. refl) (λ maps w frame values. refl) (λ frame. refl) (λ s f. refl) (λ s f. none-read s.ground.payload) (omega arith) (omega arith) e
 
-pub Lowers-builtin : (b : NumBuiltin) (head : Part) (c new : Code) → new ≡ pushed (i.Builtin b) c → LowersValue (head ∷ []) (number_value (builtin b)) shapes.Int (need 8 4) c new
+pub Lowers-builtin : (b : NumBuiltin) (head : TreePart) (c new : Code) → new ≡ pushed (i.Builtin b) c → LowersValue (head ∷ []) (number_value (builtin b)) shapes.Int (need 8 4) c new
 unfolding given bind looked_at
 Lowers-builtin b head c new e = Lowers-leaf (i.Builtin b) head shapes.Int (number_value (builtin b)) (λ w frame. Int (builtin_value b w.context)) (λ frame. frame) (need 8 4) c new refl refl (omega arith) (λ w frame. refl) (λ maps w frame values. refl) (λ frame. refl) (λ s f. refl) (λ s f. none-read s.ground.payload) (omega arith) (omega arith) e
 
-pub Lowers-command : (head : Part) (c new : Code) → new ≡ pushed i.Comm c → LowersValue (head ∷ []) (text_value command) shapes.Str (need 64 24) c new
+pub Lowers-command : (head : TreePart) (c new : Code) → new ≡ pushed i.Comm c → LowersValue (head ∷ []) (text_value command) shapes.Str (need 64 24) c new
 unfolding given bind looked_at
 Lowers-command head c new e = Lowers-leaf i.Comm head shapes.Str (text_value command) (λ w frame. Str w.context.comm) (λ frame. frame) (need 64 24) c new refl refl (omega arith) (λ w frame. refl) (λ maps w frame values. refl) (λ frame. refl) (λ s f. refl) (λ s f. none-read s.ground.payload) (omega arith) (omega arith) e
 
@@ -128,7 +128,7 @@ both-puts op l r = record {
         ∙ ap (λ (x : Value). Ended (state frame (values ++ Int (binary_value op (number_of a) (number_of x)) ∷ []))) (top-two values a b)
     binary maps w frame values (a ∷ b ∷ v ∷ vs) h = absurd (omega arith)
 
-pub Lowers-both : (op : BinOp) (pl pr : List Part) (l r : Does ℤ) (nl nr : Need) (c c1 c2 new : Code) → c1 ≡ pushed (i.Binary op) c → LowersValue pr (number_value r) shapes.Int nr c1 c2 → LowersValue pl (number_value l) shapes.Int nl c2 new →
+pub Lowers-both : (op : BinOp) (pl pr : List TreePart) (l r : Does ℤ) (nl nr : Need) (c c1 c2 new : Code) → c1 ≡ pushed (i.Binary op) c → LowersValue pr (number_value r) shapes.Int nr c1 c2 → LowersValue pl (number_value l) shapes.Int nl c2 new →
     LowersValue (Joined op ∷ (pl ++ pr)) (number_value (both op l r)) shapes.Int (need (max nl.frame (8 + nr.frame)) (12 + nl.code + nr.code)) c new
 Lowers-both op pl pr l r nl nr c c1 c2 new e1 lr ll =
     Parts-less _ _ _ (need (max (max nl.frame (8 + nr.frame)) 16) (12 + (nl.code + nr.code))) _ c new
@@ -155,7 +155,7 @@ unary-puts op d = record {
         ∙ ap (λ (x : Value). Ended (state frame (values ++ Int (unary_value op (number_of x)) ∷ []))) (top-append values a)
     unary maps w frame values (a ∷ b ∷ vs) h = absurd (omega arith)
 
-pub Lowers-unary : (op : UnOp) (pd : List Part) (d : Does ℤ) (n : Need) (c c1 new : Code) → c1 ≡ pushed (i.Unary op) c → LowersValue pd (number_value d) shapes.Int n c1 new → LowersValue (Prefixed op ∷ pd) (number_value (before op d)) shapes.Int (more 8 n) c new
+pub Lowers-unary : (op : UnOp) (pd : List TreePart) (d : Does ℤ) (n : Need) (c c1 new : Code) → c1 ≡ pushed (i.Unary op) c → LowersValue pd (number_value d) shapes.Int n c1 new → LowersValue (Prefixed op ∷ pd) (number_value (before op d)) shapes.Int (more 8 n) c new
 Lowers-unary op pd d n c c1 new e1 ld =
     Parts-less _ _ _ (need (max n.frame 8) (8 + n.code)) _ c new (max-le (omega arith) (omega (arith, ld.sizes))) (omega arith)
     (Parts-put (i.Unary op) pd (Prefixed op) (number_value d ∷ []) (shapes.Int ∷ []) shapes.Int (number_value (before op d)) (λ w vs frame. Ended tt) (λ w vs frame a. Int (unary_value op (number_of (top vs)))) (λ vs frame a. frame) n c c1 new
@@ -180,7 +180,7 @@ tested-puts d = record {
     flagged maps w frame values (a ∷ b ∷ vs) h = absurd (omega arith)
 
 -- a part that says nothing of its own may stand before others
-pub Lowers-tested : (pd : List Part) (d : Does ℤ) (n : Need) (c c1 new : Code) → c1 ≡ pushed i.Truth c → LowersValue pd (number_value d) shapes.Int n c1 new → LowersValue pd (number_value (tested d)) shapes.Int (more 4 n) c new
+pub Lowers-tested : (pd : List TreePart) (d : Does ℤ) (n : Need) (c c1 new : Code) → c1 ≡ pushed i.Truth c → LowersValue pd (number_value d) shapes.Int n c1 new → LowersValue pd (number_value (tested d)) shapes.Int (more 4 n) c new
 Lowers-tested pd d n c c1 new e1 ld =
     Parts-fit (Both ∷ pd) pd _ _ _ c new (λ s f. f)
     (Parts-less _ _ _ (need (max n.frame 8) (4 + n.code)) _ c new (max-le (omega arith) (omega (arith, ld.sizes))) (omega arith)
@@ -212,7 +212,7 @@ compared-puts equal l r = record {
         ∙ ap (λ (x : Value). Ended (state frame (values ++ answer a x ∷ []))) (top-two values a b)
     comparing maps w frame values (a ∷ b ∷ v ∷ vs) h = absurd (omega arith)
 
-pub Lowers-compared : (equal : Bool) (head : Part) (pl pr : List Part) (l r : Does (List ℕ)) (nl nr : Need) (c c1 c2 new : Code) → c1 ≡ pushed (i.Compare equal) c → LowersValue pr (text_value r) shapes.Str nr c1 c2 → LowersValue pl (text_value l) shapes.Str nl c2 new →
+pub Lowers-compared : (equal : Bool) (head : TreePart) (pl pr : List TreePart) (l r : Does (List ℕ)) (nl nr : Need) (c c1 c2 new : Code) → c1 ≡ pushed (i.Compare equal) c → LowersValue pr (text_value r) shapes.Str nr c1 c2 → LowersValue pl (text_value l) shapes.Str nl c2 new →
     LowersValue (head ∷ (pl ++ pr)) (number_value (texts_compared equal l r)) shapes.Int (need (max nl.frame (64 + nr.frame)) (48 + nl.code + nr.code)) c new
 Lowers-compared equal head pl pr l r nl nr c c1 c2 new e1 lr ll =
     Parts-less _ _ _ (need (max (max nl.frame (64 + nr.frame)) 128) (48 + (nl.code + nr.code))) _ c new

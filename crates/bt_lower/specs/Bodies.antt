@@ -11,7 +11,7 @@ use Rattle.typed_tree.specs.declared.expr.NumExpr.{NumExpr}
 use Rattle.typed_tree.specs.declared.script.Typed.{Typed}
 use Rattle.typed_tree.specs.declared.stmt.TypedBlock.{TypedBlock}
 use Rattle.typed_tree.specs.Bodies.{predicate_parts, tree_parts}
-use Rattle.typed_tree.specs.Parts.{Part, block_parts}
+use Rattle.typed_tree.specs.Parts.{TreePart, block_parts}
 use Rattle.typed_tree.specs.Scope.{all_fit}
 use Rattle.walk_meaning.specs.declared.flow.Frame.{Frame}
 use Rattle.walk_meaning.specs.Does.{BodyScene}
@@ -32,7 +32,7 @@ use Rattle.bt_lower.specs.Needs.{Need, greater, predicate_need, block_need, tree
 use Rattle.bt_lower.specs.Sound.{Footing, ground_in, Site, HasRoom}
 
 -- a predicate, and the statements that it guards
-abbrev pub guarded_parts : Option NumExpr → TypedBlock → Bool → List Part
+abbrev pub guarded_parts : Option NumExpr → TypedBlock → Bool → List TreePart
 guarded_parts predicate block inside = predicate_parts predicate ++ block_parts block inside
 
 abbrev pub guarded_need : Option NumExpr → TypedBlock → Need

@@ -12,7 +12,7 @@ use Rattle.typed_tree.specs.declared.expr.StrExpr.{StrExpr}
 use Rattle.typed_tree.specs.declared.stmt.TypedBlock.{TypedBlock}
 use Rattle.typed_tree.specs.declared.stmt.TypedStmt.{TypedStmt}
 use Rattle.typed_tree.specs.declared.stmt.TypedStmt.TheVariants as stmts
-use Rattle.typed_tree.specs.Parts.{Part, Made, made_of, parts_in, key_shapes, stmt_parts}
+use Rattle.typed_tree.specs.Parts.{TreePart, Made, made_of, parts_in, key_shapes, stmt_parts}
 use Rattle.typed_tree.specs.Parts.{block_parts, joined, arm_parts, otherwise_parts, option_inside, num_parts, str_parts}
 use Rattle.typed_tree.specs.Scope.{all_fit}
 use Rattle.walk_meaning.specs.declared.flow.Flow.{Flow}
@@ -66,7 +66,7 @@ abbrev pub known_need : Value → Need
 known_need v = need (by_shape (shape_of v) 8 64) (by_shape (shape_of v) 4 32)
 
 -- the new code evaluates from left to right, puts the values on the stack, and does what the old one did; it needs no more than this
-pub record LowersParts (parts : List Part) (ds : List (Does Value)) (shapes : List Shape) (n : Need) (old new : Code) : Type 0 where
+pub record LowersParts (parts : List TreePart) (ds : List (Does Value)) (shapes : List Shape) (n : Need) (old new : Code) : Type 0 where
   pub grew : Grew old.blocks new.blocks
   pub depth : new.depth ≡ old.depth
   pub slots : code_slots new ≤ code_slots old + n.code
@@ -81,7 +81,7 @@ pub record LowersParts (parts : List Part) (ds : List (Does Value)) (shapes : Li
       → (rest : List Shape) → old.stack ≡ rest ++ shapes
       → HasRoom t.ground (sizes_of rest + n.frame) → Opens t.ground bs old → Opens t.ground bs new × Sound t.ground bs (length old.blocks) (length new.blocks)
 
-abbrev pub LowersValue : List Part → Does Value → Shape → Need → Code → Code → Type 0
+abbrev pub LowersValue : List TreePart → Does Value → Shape → Need → Code → Code → Type 0
 LowersValue parts d shape n old new = LowersParts parts (d ∷ []) (shape ∷ []) n old new
 
 abbrev pub LowersNumber : NumExpr → Code → Code → Type 0
@@ -102,7 +102,7 @@ pub record LowersList (es : List AnyExpr) (old new : Code) : Type 0 where
   pub sized : sizes_in (values_need es) ≡ sizes_of (key_shapes (all_made es))
 
 -- the new block evaluates, puts the value on the stack, and goes on to a block
-pub record LowersArm (parts : List Part) (d : Does Value) (shape : Shape) (n : Need) (after : ℕ) (old new : Code) (b : ℕ) : Type 0 where
+pub record LowersArm (parts : List TreePart) (d : Does Value) (shape : Shape) (n : Need) (after : ℕ) (old new : Code) (b : ℕ) : Type 0 where
   pub grew : Grew old.blocks new.blocks
   pub depth : new.depth ≡ old.depth
   pub slots : code_slots new ≤ code_slots old + n.code
@@ -129,7 +129,7 @@ pub record Follows (bs : List Block) (way : Ways) (c : Code) (most : ℕ) (scene
   pub stop : (e : Ending) (st : Frame) → k (Stop e, st) ≡ Ended e
 
 -- the new code does the statement, and then, by where it leads, what follows
-pub record LowersStmt (parts : Bool → List Part) (d : Does Flow) (n : Need) (way : Ways) (old new : Code) : Type 0 where
+pub record LowersStmt (parts : Bool → List TreePart) (d : Does Flow) (n : Need) (way : Ways) (old new : Code) : Type 0 where
   pub grew : Grew old.blocks new.blocks
   pub depth : new.depth ≡ old.depth
   pub slots : code_slots new ≤ code_slots old + n.code
@@ -144,7 +144,7 @@ pub record LowersStmt (parts : Bool → List Part) (d : Does Flow) (n : Need) (w
       → Opens t.ground bs new × Sound t.ground bs (length old.blocks) (length new.blocks)
 
 -- the new block does the statement, and goes on to a block
-pub record LowersBlock (parts : Bool → List Part) (d : Does Flow) (n : Need) (after : ℕ) (way : Ways) (old new : Code) (b : ℕ) : Type 0 where
+pub record LowersBlock (parts : Bool → List TreePart) (d : Does Flow) (n : Need) (after : ℕ) (way : Ways) (old new : Code) (b : ℕ) : Type 0 where
   pub grew : Grew old.blocks new.blocks
   pub depth : new.depth ≡ old.depth
   pub slots : code_slots new ≤ code_slots old + n.code + 1
@@ -178,7 +178,7 @@ abbrev pub LowersInto : TypedBlock → ℕ → Ways → Code → Code → ℕ �
 LowersInto block after way old new b = LowersBlock (block_parts block) (block_does block) (block_need block) after way old new b
 
 -- the block of an `else`, or nothing
-abbrev pub else_parts : Option TypedBlock → Bool → List Part
+abbrev pub else_parts : Option TypedBlock → Bool → List TreePart
 else_parts o inside = otherwise_parts (option_inside inside (option_map block_parts o))
 
 abbrev pub else_does : Option TypedBlock → Does Flow
@@ -191,7 +191,7 @@ abbrev pub LowersElse : Option TypedBlock → ℕ → Ways → Code → Code →
 LowersElse o after way old new b = LowersBlock (else_parts o) (else_does o) (else_need o) after way old new b
 
 -- the arms of an `if`: each has a test of 4 slots, besides what its parts need, and behind it comes what follows where the test does not hold
-abbrev pub arms_parts : List (NumExpr × TypedBlock) → Option TypedBlock → Bool → List Part
+abbrev pub arms_parts : List (NumExpr × TypedBlock) → Option TypedBlock → Bool → List TreePart
 arms_parts arms o inside = joined (map (λ arm. arm_parts (arm.0, block_parts arm.1 inside)) arms) ++ else_parts o inside
 
 abbrev pub arms_do : List (NumExpr × TypedBlock) → Option TypedBlock → Does Flow

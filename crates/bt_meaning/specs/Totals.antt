@@ -20,7 +20,7 @@ use Rattle.typed_tree.specs.declared.script.Typed.{Typed}
 use Rattle.typed_tree.specs.declared.stmt.Jump.{Jump}
 use Rattle.typed_tree.specs.declared.stmt.Jump.TheVariants.{Exit}
 use Rattle.typed_tree.specs.Bodies.{tree_parts}
-use Rattle.typed_tree.specs.Parts.{Part, AggOf, Cleared, Zeroed, Jumped}
+use Rattle.typed_tree.specs.Parts.{TreePart, AggOf, Cleared, Zeroed, Jumped}
 use Rattle.agg_core.specs.Aggregates.{aggregate}
 use Rattle.agg_core.specs.Answers.{agg_kind_in}
 use Rattle.agg_core.specs.Changes.{is_key, with_key}
@@ -36,7 +36,7 @@ StaysInBody Exit = ⊥
 StaysInBody jump = ⊤
 
 -- a part reads no aggregation, and is no `clear`, `zero` or `exit`
-abbrev pub Keeps : Part → Type 0
+abbrev pub Keeps : TreePart → Type 0
 Keeps (AggOf number keys) = ⊥
 Keeps (Cleared number) = ⊥
 Keeps (Zeroed number) = ⊥

@@ -8,7 +8,7 @@ use Rattle.bt_meaning.specs.Prints.{printed_text}
 use Rattle.std.specs.Prelude.{Bool, true, false, Option, Some, None, IsSomeAnd}
 use Rattle.std.specs.Io.KnownBytes.{Appends}
 use Rattle.big_script.specs.declared.script.TheConstants.{SCRIPT}
-use Rattle.big_script.specs.Jobs.{IsAttachedOver, IsTypedOver, HaveFewKeys}
+use Rattle.big_script.specs.Jobs.{IsAttachedOver, IsTypedOver, HaveFewTotals}
 use Rattle.bt_ast.specs.declared.attached.Attached.{Attached}
 use Rattle.bt_ast.specs.declared.probe.Script.{Script as Tree}
 use Rattle.bt_attach.specs.Attaching.{IsAttachedTo, attach_fault}
@@ -94,7 +94,7 @@ pub record AreRunLaws : Type 0 where
       → IsInterleaving (replay_of script attached r) steps → AddsAreOwn steps
   pub only : (seed count : ℕ) (r : Recorded) (typed : Typed) → IsMade seed count r → IsTypedOver r typed → IsAggregationOnly typed
   pub few : (seed count : ℕ) (r : Recorded) (attached : Attached) (typed : Typed) → IsMade seed count r → IsAttachedOver r attached → IsTypedOver r typed
-      → HaveFewKeys typed attached r
+      → HaveFewTotals typed attached r
   pub totals : (script : Typed) (attached : Attached) (r : Recorded) (steps : List Step) → IsAddingRun script attached r steps
       → EndsWithTotals script attached r steps
 

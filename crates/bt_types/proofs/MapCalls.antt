@@ -24,7 +24,7 @@ use Rattle.expr_types.specs.Known.{shape_in, shapes_in, decl_in, with_mention, d
 use Rattle.expr_types.specs.Judge.{judged, Says, SaysFault, IsBreach}
 use Rattle.expr_types.specs.Rules.{breaks, are_rows, write_breaks, is_agg_in, is_one_too_many, has_other_keys}
 use Rattle.expr_types.specs.Walk.{Seen, MapSeen, at, points_of, words_of}
-use Rattle.typed_tree.specs.Parts.{stmt_parts, Part, Gathered, Deleted, Shown, Cleared, Zeroed, Made, gather_parts, number_parts, delete_parts, key_shapes, parts_in}
+use Rattle.typed_tree.specs.Parts.{stmt_parts, TreePart, Gathered, Deleted, Shown, Cleared, Zeroed, Made, gather_parts, number_parts, delete_parts, key_shapes, parts_in}
 use Rattle.expr_types.specs.Typing.{IsDeclared, title, titles_of}
 use Rattle.expr_types.specs.Maps.{kind_held}
 use Rattle.expr_types.specs.Checked.{Checked, KeyChecked}
@@ -70,14 +70,14 @@ gather_done m kind t word k0 k1 k2 k3 number keys e c d fine h is counts =
     (held_both k3 (parts_in keys) (number_parts e) m.key_words t.words (held_later k1 k3 (parts_in keys) m.key_words g (held_key m k0 k1 number keys c))
     (held_later k2 k3 (number_parts e) t.words last.grows (held_done t k1 k2 (number_parts e) d))))
 
-pub gather_bounds : (m : MapSeen) (kind : AggKind) (t : Told) (word : Place) (k0 k1 k2 : Known) (number : ℕ) (keys : List Made) (ps : List Part) (e : TypeError) → KeyChecked m k0 k1 number keys → Done t k1 k2 ps
+pub gather_bounds : (m : MapSeen) (kind : AggKind) (t : Told) (word : Place) (k0 k1 k2 : Known) (number : ℕ) (keys : List Made) (ps : List TreePart) (e : TypeError) → KeyChecked m k0 k1 number keys → Done t k1 k2 ps
     → IsBreach (breaks (not (is_fine_agg kind)) BadBounds) word e → SaysFault (judged (gather_told m kind t word).points k0) e
 gather_bounds m kind t word k0 k1 k2 number keys ps e c d h =
     fault_behind m.points (t.points ++ at word (NeedsBounds kind) ∷ at m.place (Gathers m.name m.keys kind) ∷ []) k0 k1 e (went_key m k0 k1 number keys c)
     (fault_behind t.points (at word (NeedsBounds kind) ∷ at m.place (Gathers m.name m.keys kind) ∷ []) k1 k2 e (went_done t k1 k2 ps d)
     (fault_here word (NeedsBounds kind) (at m.place (Gathers m.name m.keys kind) ∷ []) k2 e h))
 
-pub gather_refused : (m : MapSeen) (kind : AggKind) (t : Told) (word : Place) (k0 k1 k2 : Known) (number : ℕ) (keys : List Made) (ps : List Part) (e : TypeError) → KeyChecked m k0 k1 number keys → Done t k1 k2 ps
+pub gather_refused : (m : MapSeen) (kind : AggKind) (t : Told) (word : Place) (k0 k1 k2 : Known) (number : ℕ) (keys : List Made) (ps : List TreePart) (e : TypeError) → KeyChecked m k0 k1 number keys → Done t k1 k2 ps
     → breaks (not (is_fine_agg kind)) BadBounds ≡ None → IsBreach (write_breaks k2 m.name (Aggs kind) (key_shapes keys)) m.place e → SaysFault (judged (gather_told m kind t word).points k0) e
 gather_refused m kind t word k0 k1 k2 number keys ps e c d fine h =
     fault_behind m.points (t.points ++ at word (NeedsBounds kind) ∷ at m.place (Gathers m.name m.keys kind) ∷ []) k0 k1 e (went_key m k0 k1 number keys c)
@@ -222,7 +222,7 @@ delete_leaves name keys k0 k1 k2 mentioned shared h is =
 
 parts_both : (ms ns : List Made) → parts_in (ms ++ ns) ≡ parts_in ms ++ parts_in ns
 parts_both [] ns = refl
-parts_both (m ∷ ms) ns = ap (λ (l : List Part). m.parts ++ l) (parts_both ms ns) ∙ sym (append_assoc m.parts (parts_in ms) (parts_in ns))
+parts_both (m ∷ ms) ns = ap (λ (l : List TreePart). m.parts ++ l) (parts_both ms ns) ∙ sym (append_assoc m.parts (parts_in ms) (parts_in ns))
 
 deleted_word : (a b : List ℕ) (m n : ℕ) → a ≡ b → m ≡ n → DeleteWord a m ≡ DeleteWord b n
 deleted_word a b m n g h = cc
@@ -242,7 +242,7 @@ delete_done m apart place k0 k1 k2 k3 number keys more c w held types whole r =
     (held_more k3 (Deleted number (key_shapes (keys ++ more))) (DeleteWord m.name (length (m.keys ++ map (λ s. s.sort) apart))) (parts_in (keys ++ more)) (m.key_words ++ words_of apart)
     (record { kind = r.kind; shared = r.shared; map = record { name = m.name; named = named; declared = r.declared } })
     (deleted_word (title (titles_of k3).maps number) m.name (length (key_shapes (keys ++ more))) (length (m.keys ++ map (λ s. s.sort) apart)) name long)
-    (subst (λ (ps : List Part). Held k3 ps (m.key_words ++ words_of apart)) (sym (parts_both keys more))
+    (subst (λ (ps : List TreePart). Held k3 ps (m.key_words ++ words_of apart)) (sym (parts_both keys more))
     (held_both k3 (parts_in keys) (parts_in more) m.key_words (words_of apart) (held_later k1 k3 (parts_in keys) m.key_words g (held_key m k0 k1 number keys c)) (held_later k2 k3 (parts_in more) (words_of apart) r.grows held))))
 
 delete_does : (m : MapSeen) (apart : List Seen) (place : Place) (k0 k1 k2 k3 : Known) (number : ℕ) (keys more : List Made) (r : Result TypedStmt TypeError) → KeyChecked m k0 k1 number keys → Went (points_of apart) k1 k2
@@ -250,7 +250,7 @@ delete_does : (m : MapSeen) (apart : List Seen) (place : Place) (k0 k1 k2 k3 : K
     → Says (judged (delete_points m.name m.place place (m.keys ++ map (λ s. s.sort) apart)) k2) k3 r → OnOk r (Removed k2 k3 m.name (key_shapes (keys ++ more)))
     → IfOk r (λ s. (inside : Bool) → stmt_parts s inside ≡ delete_parts number (keys ++ more)) → DoesIn (delete_told m apart place) stmt_parts k0 k3 r
 delete_does m apart place k0 k1 k2 k3 number keys more (Ok s) c w held types says removed made = λ (inside : Bool).
-    subst (λ (ps : List Part). Done (delete_told m apart place) k0 k3 ps) (sym (made inside)) (delete_done m apart place k0 k1 k2 k3 number keys more c w held types says removed)
+    subst (λ (ps : List TreePart). Done (delete_told m apart place) k0 k3 ps) (sym (made inside)) (delete_done m apart place k0 k1 k2 k3 number keys more c w held types says removed)
 delete_does m apart place k0 k1 k2 k3 number keys more (Err e) c w held types says removed made =
     fault_behind m.points (points_of apart ++ delete_points m.name m.place place (m.keys ++ map (λ s. s.sort) apart)) k0 k1 e (went_key m k0 k1 number keys c)
     (fault_behind (points_of apart) (delete_points m.name m.place place (m.keys ++ map (λ s. s.sort) apart)) k1 k2 e w says)

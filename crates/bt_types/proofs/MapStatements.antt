@@ -16,7 +16,7 @@ use Rattle.expr_types.specs.Known.{shape_in, shapes_in, kind_for, decides, learn
 use Rattle.expr_types.specs.Judge.{judged, SaysFault, IsBreach}
 use Rattle.expr_types.specs.Rules.{broken_at, write_breaks}
 use Rattle.expr_types.specs.Walk.{Seen, MapSeen, OnMap, at, map_words}
-use Rattle.typed_tree.specs.Parts.{Part, MapOf, Assigned, Made, keyed_parts, key_shapes, parts_in, set_map_parts, update_map_parts}
+use Rattle.typed_tree.specs.Parts.{TreePart, MapOf, Assigned, Made, keyed_parts, key_shapes, parts_in, set_map_parts, update_map_parts}
 use Rattle.expr_types.specs.Typing.{IsDeclared, IsMapOf, title, titles_of}
 use Rattle.expr_types.specs.Join.{whole_breaks}
 use Rattle.expr_types.specs.Checked.{Checked, KeyChecked}
@@ -103,7 +103,7 @@ set_map_refused m s k0 k1 k2 number keys v e c d h =
     (fault_behind s.points (at m.place (Sets m.name m.keys s.sort) ∷ []) k1 k2 e (went_seen s k1 k2 v d)
     (decided_fault m (Sets m.name m.keys s.sort) (kind_of_shape v.shape) keys [] k2 e (sets_decide m s.sort v.shape keys k2 d.typing.shape (keys_now m k0 k1 k2 number keys c d.grows)) h))
 
-pub update_map_done : (op : BinOp) (m : MapSeen) (s : Seen) (place : Place) (k0 k1 k2 k3 : Known) (number : ℕ) (keys : List Made) (v : Made) (value : List Part) → KeyChecked m k0 k1 number keys → Checked s k1 k2 v
+pub update_map_done : (op : BinOp) (m : MapSeen) (s : Seen) (place : Place) (k0 k1 k2 k3 : Known) (number : ℕ) (keys : List Made) (v : Made) (value : List TreePart) → KeyChecked m k0 k1 number keys → Checked s k1 k2 v
     → write_breaks k2 m.name Ints (key_shapes keys) ≡ None → k3 ≡ decides k2 m.name Ints (key_shapes keys) → whole_breaks v.shape ≡ None → value ≡ v.parts
     → Done (update_told op (OnMap m) s place) k0 k3 (update_map_parts op number keys value)
 update_map_done op m s place k0 k1 k2 k3 number keys v value c d h is w same =

@@ -16,7 +16,7 @@ use Rattle.expr_types.specs.Known.{shape_in, var_in, with_var, learn}
 use Rattle.expr_types.specs.Judge.{judged, SaysFault, IsBreach, Refuses}
 use Rattle.expr_types.specs.Rules.{broken_at, breaks, is_text, are_two}
 use Rattle.expr_types.specs.Walk.{Seen, OnVar, at, of_expr, step_points}
-use Rattle.typed_tree.specs.Parts.{Part, VarOf, Assigned, Made, num_parts, set_var_parts, update_var_parts}
+use Rattle.typed_tree.specs.Parts.{TreePart, VarOf, Assigned, Made, num_parts, set_var_parts, update_var_parts}
 use Rattle.expr_types.specs.Typing.{title, titles_of}
 use Rattle.expr_types.specs.Join.{whole_breaks, set_breaks}
 use Rattle.expr_types.specs.Checked.{Checked}
@@ -43,7 +43,7 @@ whole_fault k place sort s qs e h b = fault_here place (NeedsWhole sort) qs k e 
 pub number_does : (x : Expr) (place : Place) (k0 k1 : Known) (m : Made) (r : Result NumExpr TypeError) → Checked (of_expr x) k0 k1 m → Refuses (whole_breaks m.shape) place r → IfOk r (λ n. num_parts n ≡ m.parts)
     → Does (number_told x place) num_parts k0 k1 r
 number_does x place k0 k1 m (Ok n) c h e =
-    subst (λ (ps : List Part). Done (number_told x place) k0 k1 ps) (sym e)
+    subst (λ (ps : List TreePart). Done (number_told x place) k0 k1 ps) (sym e)
     (done_then (value_told (of_expr x)) k0 k1 m.parts place (NeedsWhole (of_expr x).sort) tt (done_value (of_expr x) k0 k1 m c) (whole_is k1 (of_expr x).sort m.shape c.typing.shape ∙ h))
 number_does x place k0 k1 m (Err e) c h g =
     refused_next (value_told (of_expr x)) (asks place (NeedsWhole (of_expr x).sort)) k0 k1 m.parts e (done_value (of_expr x) k0 k1 m c)
@@ -75,7 +75,7 @@ set_var_refused name place s k0 k1 v e c h =
     (fault_here place (SetsVar name s.sort) [] k1 e (subst (λ (r : Option Rule). IsBreach r place e) (sym (set_is k1 name s.sort v.shape c.typing.shape)) h))
 
 -- a variable is changed by an operator
-pub update_var_done : (op : BinOp) (name : List ℕ) (at_var place : Place) (s : Seen) (k0 k1 : Known) (number : ℕ) (v : Made) (value : List Part) → Checked s k0 k1 v
+pub update_var_done : (op : BinOp) (name : List ℕ) (at_var place : Place) (s : Seen) (k0 k1 : Known) (number : ℕ) (v : Made) (value : List TreePart) → Checked s k0 k1 v
     → judged (step_points place (OnVar name at_var)) k1 ≡ Ok k1 → slice_get k1.vars number ≡ Some (let x : Var = record { name = name; shape = Int } in x) → whole_breaks v.shape ≡ None → value ≡ v.parts
     → Done (update_told op (OnVar name at_var) s place) k0 k1 (update_var_parts op number value)
 update_var_done op name at_var place s k0 k1 number v value c h n w is =

@@ -22,7 +22,7 @@ use Rattle.event_layout.specs.declared.field.FieldKind.{FieldKind}
 use Rattle.event_layout.specs.declared.field.FieldKind.TheVariants as field
 use Rattle.event_layout.specs.declared.layout.Layout.{Layout}
 use Rattle.typed_tree.specs.Bodies.{scope_of, tree_parts}
-use Rattle.typed_tree.specs.Parts.{Part, Constant, Literal, Numeric, Command, FieldOf, VarOf, MapOf, AggOf, Stepped, Prefixed, Joined, Both, Either, Chosen}
+use Rattle.typed_tree.specs.Parts.{TreePart, Constant, Literal, Numeric, Command, FieldOf, VarOf, MapOf, AggOf, Stepped, Prefixed, Joined, Both, Either, Chosen}
 use Rattle.typed_tree.specs.Parts.{Assigned, Gathered, Deleted, Printed, Shown, Cleared, Zeroed, Jumped, Looped, Unrolled, Arm, Otherwise, NoOtherwise, Ending}
 use Rattle.typed_tree.specs.Scope.{Scope, decl_of, format_of, same_shape, same_shapes, same_agg, same_kind, same_bool, same_field_kind, same_field, kind_of_shape, is_agg, is_summed_kind, is_fine_decl, is_shape, has_field, is_declared, is_shared, is_summed, is_there, takes, fits, all_fit, shape_of_field, may_print}
 use Rattle.bt_ast.specs.declared.attached.BodyId.{BodyId}
@@ -194,7 +194,7 @@ test_true false h = absurd h
 within_true : (n : ℕ) → 1 ≤ n → n ≤ 100 → (nat_le 1 n && nat_le n 100) ≡ true
 within_true n low high = both_true (nat_le 1 n) (nat_le n 100) (grind (arith, nat_tests)) (grind (arith, nat_tests))
 
-part_fits : (k : Known) → Sound k → (p : Part) → Fits k p → fits (scope_at k) p ≡ true
+part_fits : (k : Known) → Sound k → (p : TreePart) → Fits k p → fits (scope_at k) p ≡ true
 part_fits k s (FieldOf f shape) h =
     both_true (has_field k.event f) (is_shape (shape_of_field f.kind) shape) (field_there k.event f h.0) (ap (λ (o : Option Shape). is_shape o shape) h.1 ∙ shape_self shape)
 part_fits k s (VarOf number shape) h =
@@ -226,7 +226,7 @@ part_fits k s Otherwise h = refl
 part_fits k s NoOtherwise h = refl
 part_fits k s Ending h = refl
 
-parts_fit : (k : Known) → Sound k → (ps : List Part) → AllFit k ps → all_fit (scope_at k) ps ≡ true
+parts_fit : (k : Known) → Sound k → (ps : List TreePart) → AllFit k ps → all_fit (scope_at k) ps ≡ true
 parts_fit k s [] h = refl
 parts_fit k s (p ∷ ps) h = both_true (fits (scope_at k) p) (all_fit (scope_at k) ps) (part_fits k s p h.0) (parts_fit k s ps h.1)
 

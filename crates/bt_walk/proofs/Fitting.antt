@@ -9,52 +9,52 @@ use Rattle.typed_tree.specs.declared.expr.NumExpr.{NumExpr, fold-roll-NumExpr}
 use Rattle.typed_tree.specs.declared.expr.NumExpr.TheVariants as nums
 use Rattle.typed_tree.specs.declared.expr.StrExpr.{StrExpr, fold-roll-StrExpr}
 use Rattle.typed_tree.specs.declared.expr.StrExpr.TheVariants as strs
-use Rattle.typed_tree.specs.Parts.{Part, Made, any_layer, num_layer, str_layer, num_parts, str_parts, Prefixed, Joined, Both, Either, Chosen, compared}
+use Rattle.typed_tree.specs.Parts.{TreePart, Made, any_layer, num_layer, str_layer, num_parts, str_parts, Prefixed, Joined, Both, Either, Chosen, compared}
 use Rattle.typed_tree.specs.Scope.{fits, all_fit}
 use Rattle.walk_meaning.specs.declared.view.View.{View}
 use Rattle.walk_meaning.specs.Served.{Fits, scope_in}
 
-pub behind : (v : View) (p : Part) (a all : List Part) → all ≡ p ∷ a → Fits v all → Fits v a
-behind v p a all is fit = (and_parts (fits (scope_in v) p) (all_fit (scope_in v) a) (subst (λ (l : List Part). all_fit (scope_in v) l ≡ true) is fit)).1
+pub behind : (v : View) (p : TreePart) (a all : List TreePart) → all ≡ p ∷ a → Fits v all → Fits v a
+behind v p a all is fit = (and_parts (fits (scope_in v) p) (all_fit (scope_in v) a) (subst (λ (l : List TreePart). all_fit (scope_in v) l ≡ true) is fit)).1
 
-pub two : (v : View) (a b : List Part) → Fits v (a ++ b) → Fits v a × Fits v b
+pub two : (v : View) (a b : List TreePart) → Fits v (a ++ b) → Fits v a × Fits v b
 two v a b fit = and_parts (all_fit (scope_in v) a) (all_fit (scope_in v) b) (sym (list_all-append (fits (scope_in v)) a b) ∙ fit)
 
 module _ (v : View) (e : NumExpr) (fit : Fits v (num_parts e)) where
   pub unary_fits : (op : UnOp) (d d1 : NumExpr) → e ≡ nums.Unary op d → d1 ≡ d → Fits v (num_parts d1)
   unary_fits op d d1 h i =
-      let is : num_parts e ≡ Prefixed op ∷ num_parts d = ap num_parts h ∙ (ap num_parts (sym (nums.rolls-Unary op d)) ∙ fold-roll-NumExpr Made (List Part) (List Part) any_layer num_layer str_layer (NumExpr-F.Unary op d)) in
+      let is : num_parts e ≡ Prefixed op ∷ num_parts d = ap num_parts h ∙ (ap num_parts (sym (nums.rolls-Unary op d)) ∙ fold-roll-NumExpr Made (List TreePart) (List TreePart) any_layer num_layer str_layer (NumExpr-F.Unary op d)) in
       subst (λ (x : NumExpr). Fits v (num_parts x)) (sym i) (behind v (Prefixed op) (num_parts d) (num_parts e) is fit)
 
   pub binary_fits : (op : BinOp) (l r : NumExpr) → e ≡ nums.Binary op l r → Fits v (num_parts l) × Fits v (num_parts r)
   binary_fits op l r h =
-      let is : num_parts e ≡ Joined op ∷ (num_parts l ++ num_parts r) = ap num_parts h ∙ (ap num_parts (sym (nums.rolls-Binary op l r)) ∙ fold-roll-NumExpr Made (List Part) (List Part) any_layer num_layer str_layer (NumExpr-F.Binary op l r)) in
+      let is : num_parts e ≡ Joined op ∷ (num_parts l ++ num_parts r) = ap num_parts h ∙ (ap num_parts (sym (nums.rolls-Binary op l r)) ∙ fold-roll-NumExpr Made (List TreePart) (List TreePart) any_layer num_layer str_layer (NumExpr-F.Binary op l r)) in
       two v (num_parts l) (num_parts r) (behind v (Joined op) (num_parts l ++ num_parts r) (num_parts e) is fit)
 
   pub compare_fits : (equal : Bool) (l r : StrExpr) → e ≡ nums.Compare equal l r → Fits v (str_parts l) × Fits v (str_parts r)
   compare_fits equal l r h =
-      let is : num_parts e ≡ Joined (compared equal) ∷ (str_parts l ++ str_parts r) = ap num_parts h ∙ (ap num_parts (sym (nums.rolls-Compare equal l r)) ∙ fold-roll-NumExpr Made (List Part) (List Part) any_layer num_layer str_layer (NumExpr-F.Compare equal l r)) in
+      let is : num_parts e ≡ Joined (compared equal) ∷ (str_parts l ++ str_parts r) = ap num_parts h ∙ (ap num_parts (sym (nums.rolls-Compare equal l r)) ∙ fold-roll-NumExpr Made (List TreePart) (List TreePart) any_layer num_layer str_layer (NumExpr-F.Compare equal l r)) in
       two v (str_parts l) (str_parts r) (behind v (Joined (compared equal)) (str_parts l ++ str_parts r) (num_parts e) is fit)
 
   pub and_fits : (l r : NumExpr) → e ≡ nums.AndThen l r → Fits v (num_parts l) × Fits v (num_parts r)
   and_fits l r h =
-      let is : num_parts e ≡ Both ∷ (num_parts l ++ num_parts r) = ap num_parts h ∙ (ap num_parts (sym (nums.rolls-AndThen l r)) ∙ fold-roll-NumExpr Made (List Part) (List Part) any_layer num_layer str_layer (NumExpr-F.AndThen l r)) in
+      let is : num_parts e ≡ Both ∷ (num_parts l ++ num_parts r) = ap num_parts h ∙ (ap num_parts (sym (nums.rolls-AndThen l r)) ∙ fold-roll-NumExpr Made (List TreePart) (List TreePart) any_layer num_layer str_layer (NumExpr-F.AndThen l r)) in
       two v (num_parts l) (num_parts r) (behind v Both (num_parts l ++ num_parts r) (num_parts e) is fit)
 
   pub or_fits : (l r : NumExpr) → e ≡ nums.OrElse l r → Fits v (num_parts l) × Fits v (num_parts r)
   or_fits l r h =
-      let is : num_parts e ≡ Either ∷ (num_parts l ++ num_parts r) = ap num_parts h ∙ (ap num_parts (sym (nums.rolls-OrElse l r)) ∙ fold-roll-NumExpr Made (List Part) (List Part) any_layer num_layer str_layer (NumExpr-F.OrElse l r)) in
+      let is : num_parts e ≡ Either ∷ (num_parts l ++ num_parts r) = ap num_parts h ∙ (ap num_parts (sym (nums.rolls-OrElse l r)) ∙ fold-roll-NumExpr Made (List TreePart) (List TreePart) any_layer num_layer str_layer (NumExpr-F.OrElse l r)) in
       two v (num_parts l) (num_parts r) (behind v Either (num_parts l ++ num_parts r) (num_parts e) is fit)
 
   pub choose_fits : (t y o : NumExpr) → e ≡ nums.Choose t y o → Fits v (num_parts t) × (Fits v (num_parts y) × Fits v (num_parts o))
   choose_fits t y o h =
-      let is : num_parts e ≡ Chosen ∷ (num_parts t ++ (num_parts y ++ num_parts o)) = ap num_parts h ∙ (ap num_parts (sym (nums.rolls-Choose t y o)) ∙ fold-roll-NumExpr Made (List Part) (List Part) any_layer num_layer str_layer (NumExpr-F.NumExpr::Choose t y o)) in
+      let is : num_parts e ≡ Chosen ∷ (num_parts t ++ (num_parts y ++ num_parts o)) = ap num_parts h ∙ (ap num_parts (sym (nums.rolls-Choose t y o)) ∙ fold-roll-NumExpr Made (List TreePart) (List TreePart) any_layer num_layer str_layer (NumExpr-F.NumExpr::Choose t y o)) in
       let p = two v (num_parts t) (num_parts y ++ num_parts o) (behind v Chosen (num_parts t ++ (num_parts y ++ num_parts o)) (num_parts e) is fit) in
       (p.0, two v (num_parts y) (num_parts o) p.1)
 
 module _ (v : View) (e : StrExpr) (fit : Fits v (str_parts e)) where
   pub choose_text_fits : (t : NumExpr) (y o : StrExpr) → e ≡ strs.Choose t y o → Fits v (num_parts t) × (Fits v (str_parts y) × Fits v (str_parts o))
   choose_text_fits t y o h =
-      let is : str_parts e ≡ Chosen ∷ (num_parts t ++ (str_parts y ++ str_parts o)) = ap str_parts h ∙ (ap str_parts (sym (strs.rolls-Choose t y o)) ∙ fold-roll-StrExpr Made (List Part) (List Part) any_layer num_layer str_layer (StrExpr-F.StrExpr::Choose t y o)) in
+      let is : str_parts e ≡ Chosen ∷ (num_parts t ++ (str_parts y ++ str_parts o)) = ap str_parts h ∙ (ap str_parts (sym (strs.rolls-Choose t y o)) ∙ fold-roll-StrExpr Made (List TreePart) (List TreePart) any_layer num_layer str_layer (StrExpr-F.StrExpr::Choose t y o)) in
       let p = two v (num_parts t) (str_parts y ++ str_parts o) (behind v Chosen (num_parts t ++ (str_parts y ++ str_parts o)) (str_parts e) is fit) in
       (p.0, two v (str_parts y) (str_parts o) p.1)

@@ -17,13 +17,13 @@ use Rattle.actor_plan.specs.Plans.{Plan}
 use Rattle.actor_plan.specs.Ready as actors
 use Rattle.percpu_tables.specs.Tables.{table_actors, table_ids}
 use Rattle.shared_maps.specs.Maps.{part_maps, part_ids}
-use Rattle.map_ops.specs.Parts.{parts_in}
+use Rattle.map_ops.specs.Parts.{part_count}
 use Rattle.shared_maps.specs.Parts.{Part, part_at, parts_from}
 use Rattle.side_locks.specs.Steps.{OwnBoth}
 use Rattle.side_locks.specs.Turns.{Both}
 use Rattle.cpu_worker.specs.declared.world.SharedWorld.{SharedWorld}
 use Rattle.cpu_worker.specs.declared.world.WorkerTurns.{WorkerTurns}
-use Rattle.cpu_worker.specs.Worlds.{Sets, setting_in, KeepsOwn, CanReplay, IsPlanIn}
+use Rattle.cpu_worker.specs.Worlds.{Sets, setting_in, KeepsOwn, IsReplayable, IsPlanIn}
 
 -- ---- what of the trace stays at the objects of the other sets
 
@@ -34,7 +34,7 @@ numbered_apart o ne m decl k (suc n) rest h = (ne (part_at m decl k).1.map k, nu
 
 parts_apart : (o : ObjectId) → ((m : MapId) (p : ℕ) → o ≢ Shared m p) → (k : ℕ) (maps : List MapDecl) → Each (λ p. o ≢ p) (map (λ (part : Part). part.0) (parts_from k maps))
 parts_apart o ne k [] = tt
-parts_apart o ne k (decl ∷ decls) = numbered_apart o ne k decl 0 (parts_in decl.kind) (parts_from (k + 1) decls) (parts_apart o ne (k + 1) decls)
+parts_apart o ne k (decl ∷ decls) = numbered_apart o ne k decl 0 (part_count decl.kind) (parts_from (k + 1) decls) (parts_apart o ne (k + 1) decls)
 
 tables_apart : (o : ObjectId) → ((a : ℕ) → o ≢ Cpu a) → (k n : ℕ) → Each (λ p. o ≢ p) (numbered Cpu k n)
 tables_apart o ne k zero = tt
@@ -94,7 +94,7 @@ keeps_more sets t a u b v c h k = record { maps = λ own. k.maps (h.maps own); t
 
 -- ---- bodies that are made for an actor of a world can be run over it
 
-pub ready : (world : SharedWorld) (actor : ℕ) (plan : Plan) → CanReplay world → IsPlanIn world actor plan
+pub ready : (world : SharedWorld) (actor : ℕ) (plan : Plan) → IsReplayable world → IsPlanIn world actor plan
     → actors.IsReady plan world.recording.now world.attached.now (setting_in world actor)
 ready world actor plan can is = record {
   valid = can.valid;

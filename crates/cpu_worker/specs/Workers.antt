@@ -7,7 +7,7 @@ use Rattle.actor_plan.specs.Plans.{Plan}
 use Rattle.actor_plan.specs.Programs.{cpu_program}
 use Rattle.cpu_worker.specs.declared.worker.CpuWorker.{CpuWorker}
 use Rattle.cpu_worker.specs.declared.world.SharedWorld.{SharedWorld}
-use Rattle.cpu_worker.specs.Worlds.{world_cpus, sets_in, AreTurnsOf, CanReplay, IsPlanIn}
+use Rattle.cpu_worker.specs.Worlds.{world_cpus, sets_in, AreTurnsOf, IsReplayable, IsPlanIn}
 
 module _ {B G : Type 0} (plan : B → Plan) (world : SharedWorld) where
   -- the whole program of the worker's CPU, over what its bodies tell
@@ -16,8 +16,8 @@ module _ {B G : Type 0} (plan : B → Plan) (world : SharedWorld) where
 
   -- the worker can run: what is shared can be replayed, its CPU is one of it, its turns and its empty trace are its CPU's, and its
   -- bodies are made for it
-  pub record IsReady (w : CpuWorker B G) : Type 0 where
-    pub replay : CanReplay world
+  pub record IsReadyWorker (w : CpuWorker B G) : Type 0 where
+    pub replay : IsReplayable world
     pub known : w.cpu < world_cpus world
     pub turns_are : AreTurnsOf (sets_in world) w.cpu w.turns
     pub actor : actor_of w.trace ≡ w.cpu

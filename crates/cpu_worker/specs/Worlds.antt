@@ -64,8 +64,8 @@ pub record KeepsOwn (sets : Sets) (old_turns : WorkerTurns) (old : Trace) (new_t
   pub sides : OwnBoth old_turns.sides old → OwnBoth new_turns.sides new
 
 -- the world's recording can be replayed with what is attached
-abbrev pub CanReplay : SharedWorld → Type 0
-CanReplay world = ready.CanReplay world.recording.now world.attached.now
+abbrev pub IsReplayable : SharedWorld → Type 0
+IsReplayable world = ready.CanReplay world.recording.now world.attached.now
 
 -- bodies with this plan are made for this actor of the world
 abbrev pub IsPlanIn : SharedWorld → ℕ → Plan → Type 0

@@ -4,7 +4,7 @@ ghost use Rattle.bt_core.specs.Interaction.{Begins, Runs};
 ghost use Rattle.stamped.specs.Traces.{actor_of, clock_of, steps_of};
 ghost use Rattle.cpu_worker.specs.Chains.{HasWalked};
 ghost use Rattle.cpu_worker.specs.Worlds.{sets_in, setting_in, AreBy, AreTurnsOf, KeepsOwn};
-ghost use Rattle.cpu_worker.specs.Workers.{IsReady, program_in};
+ghost use Rattle.cpu_worker.specs.Workers.{IsReadyWorker, program_in};
 
 use crate::world::{SharedWorld, WorkerTurns};
 use crate::world_port::WorldPort;
@@ -68,7 +68,7 @@ impl<'g, B: Bodies, G: Gate> CpuWorker<'g, B, G> {
         alloc: Global,
         world: &SharedWorld,
     ) -> Result<Outcome, Memory>
-        requires { IsReady B.plan world.now self.old }
+        requires { IsReadyWorker B.plan world.now self.old }
         ensures whole { IfOk result (λ outcome. Runs (program_in B.plan world.now self.old) (steps_of self.new.trace) outcome) }
         ensures part { OnErr result (Begins (program_in B.plan world.now self.old) (steps_of self.new.trace)) }
         ensures walked { HasWalked (setting_in world.now self.old.cpu) (clock_of self.old.trace) self.new.trace }

@@ -7,7 +7,7 @@ use Rattle.bt_core.specs.declared.operator.BinOp.{BinOp}
 use Rattle.bt_core.specs.declared.operator.BinOp.TheVariants.{Eq, Ne}
 use Rattle.bt_core.specs.declared.operator.UnOp.{UnOp}
 use Rattle.typed_tree.specs.declared.expr.AnyExpr.{AnyExpr}
-use Rattle.typed_tree.specs.Parts.{Part, Prefixed, Chosen, Made, made, made_of}
+use Rattle.typed_tree.specs.Parts.{TreePart, Prefixed, Chosen, Made, made, made_of}
 use Rattle.expr_types.specs.declared.fault.Fault.{Fault}
 use Rattle.expr_types.specs.declared.fault.Rule.{Rule}
 use Rattle.expr_types.specs.declared.fault.Rule.TheVariants.{WrongType}
@@ -76,7 +76,7 @@ pub still : (s t : Seen) (k0 k1 k2 : Known) (m n : Made) → Checked s k0 k1 m �
 still s t k0 k1 k2 m n c d = typing_later k1 k2 d.grows s.sort s.words m c.typing
 
 -- the parts of two operands behind a word of their own
-pair_typing : (k : Known) (s t : Seen) (m n : Made) (p : Part) (w : Word) → Fits k p → word_of (titles_of k) p ≡ w → IsTyping k s.sort s.words m → IsTyping k t.sort t.words n → IsTyping k Whole (w ∷ (s.words ++ t.words)) (made Int (p ∷ (m.parts ++ n.parts)))
+pair_typing : (k : Known) (s t : Seen) (m n : Made) (p : TreePart) (w : Word) → Fits k p → word_of (titles_of k) p ≡ w → IsTyping k s.sort s.words m → IsTyping k t.sort t.words n → IsTyping k Whole (w ∷ (s.words ++ t.words)) (made Int (p ∷ (m.parts ++ n.parts)))
 pair_typing k s t m n p w f e c d =
     record {
       shape = refl;
@@ -85,7 +85,7 @@ pair_typing k s t m n p w f e c d =
     }
 
 -- two operands, and what is asked of them
-pub pair_checks : (s t : Seen) (k0 k1 k2 : Known) (m n : Made) (p : Part) (w : Word) (qs : List Point) (rule : Option Rule) (place : Place) (r : Result AnyExpr TypeError) → Checked s k0 k1 m → Checked t k1 k2 n
+pub pair_checks : (s t : Seen) (k0 k1 k2 : Known) (m n : Made) (p : TreePart) (w : Word) (qs : List Point) (rule : Option Rule) (place : Place) (r : Result AnyExpr TypeError) → Checked s k0 k1 m → Checked t k1 k2 n
     → Fits k2 p → word_of (titles_of k2) p ≡ w → judged qs k2 ≡ unless_broken rule place (Ok k2) → Refuses rule place r → IfOk r (λ e. made_of e ≡ made Int (p ∷ (m.parts ++ n.parts)))
     → Checks (seen (s.points ++ (t.points ++ qs)) Whole (w ∷ (s.words ++ t.words))) k0 k2 r
 pair_checks s t k0 k1 k2 m n p w qs rule place (Ok e) c d f g asked h is =

@@ -12,7 +12,7 @@ use Rattle.expr_types.specs.declared.known.Var.{Var}
 use Rattle.expr_types.specs.Mentions.{Sort, Word, VarWord, MapWord, GatherWord, DeleteWord, PrintfWord, ShowWord, ClearWord, ZeroWord}
 use Rattle.expr_types.specs.Known.{event_field}
 use Rattle.expr_types.specs.Grows.{IsFrontOf, Grows}
-use Rattle.typed_tree.specs.Parts.{Part, Constant, Literal, Numeric, Command, FieldOf, VarOf, MapOf, AggOf, Stepped, Prefixed, Joined, Both, Either, Chosen}
+use Rattle.typed_tree.specs.Parts.{TreePart, Constant, Literal, Numeric, Command, FieldOf, VarOf, MapOf, AggOf, Stepped, Prefixed, Joined, Both, Either, Chosen}
 use Rattle.typed_tree.specs.Parts.{Assigned, Gathered, Deleted, Printed, Shown, Cleared, Zeroed, Jumped, Looped, Unrolled, Arm, Otherwise, NoOtherwise, Ending, Made}
 use Rattle.expr_types.specs.Typing.{IsDeclared, IsNamed, IsMap, IsMapOf, Fits, AllFit, Titles, no_format, format_of_call, titles_of, title, format_title, word_of, words_by, IsTyping}
 use Rattle.expr_types.proofs.Growing.{decl_later, shape_later}
@@ -51,7 +51,7 @@ map_of_later : (a b : Known) → Grows a b → (number : ℕ) (kind : MapKind) (
 map_of_later a b g number kind keys h =
     record { name = h.name; named = named_later a b g number h.name h.named; declared = declared_later a b g h.name kind keys h.declared }
 
-fits_later : (a b : Known) → Grows a b → (p : Part) → Fits a p → Fits b p
+fits_later : (a b : Known) → Grows a b → (p : TreePart) → Fits a p → Fits b p
 fits_later a b g (FieldOf f shape) h = (ap (λ e. event_field e f.name) g.event ∙ h.0, h.1)
 fits_later a b g (VarOf number shape) h = record { var = h.var; numbered = get_later a.vars b.vars number h.var g.vars h.numbered; shapes = h.shapes }
 fits_later a b g (MapOf number keys shape) h = map_of_later a b g number _ keys h
@@ -107,7 +107,7 @@ format_is calls number call h =
 format_later : (a b : Known) → Grows a b → (number : ℕ) (call : Call) → slice_get a.printed number ≡ Some call → format_title (titles_of b).formats number ≡ format_title (titles_of a).formats number
 format_later a b g number call h = format_is b.printed number call (get_later a.printed b.printed number call g.printed h) ∙ sym (format_is a.printed number call h)
 
-word_later : (a b : Known) → Grows a b → (p : Part) → Fits a p → word_of (titles_of b) p ≡ word_of (titles_of a) p
+word_later : (a b : Known) → Grows a b → (p : TreePart) → Fits a p → word_of (titles_of b) p ≡ word_of (titles_of a) p
 word_later a b g (VarOf number shape) h = ap VarWord (var_title a b g number h.var h.numbered)
 word_later a b g (MapOf number keys shape) h = ap (λ n. MapWord n (length keys)) (map_title a b g number h.name h.named.numbered)
 word_later a b g (AggOf number keys) h = ap (λ n. MapWord n (length keys)) (map_title a b g number h.map.name h.map.named.numbered)
@@ -137,11 +137,11 @@ word_later a b g Otherwise h = refl
 word_later a b g NoOtherwise h = refl
 word_later a b g Ending h = refl
 
-pub all_later : (a b : Known) → Grows a b → (ps : List Part) → AllFit a ps → AllFit b ps
+pub all_later : (a b : Known) → Grows a b → (ps : List TreePart) → AllFit a ps → AllFit b ps
 all_later a b g [] h = tt
 all_later a b g (p ∷ ps) h = (fits_later a b g p h.0, all_later a b g ps h.1)
 
-pub words_later : (a b : Known) → Grows a b → (ps : List Part) → AllFit a ps → words_by (titles_of b) ps ≡ words_by (titles_of a) ps
+pub words_later : (a b : Known) → Grows a b → (ps : List TreePart) → AllFit a ps → words_by (titles_of b) ps ≡ words_by (titles_of a) ps
 words_later a b g [] h = refl
 words_later a b g (p ∷ ps) h =
     ap (λ w. w ∷ words_by (titles_of b) ps) (word_later a b g p h.0) ∙ ap (λ (ws : List Word). word_of (titles_of a) p ∷ ws) (words_later a b g ps h.1)
@@ -154,9 +154,9 @@ typing_later a b g sort words m t =
       written = words_later a b g m.parts t.fits ∙ t.written;
     }
 
-pub fits_both : (k : Known) (ps qs : List Part) → AllFit k ps → AllFit k qs → AllFit k (ps ++ qs)
+pub fits_both : (k : Known) (ps qs : List TreePart) → AllFit k ps → AllFit k qs → AllFit k (ps ++ qs)
 fits_both k [] qs f g = g
 fits_both k (p ∷ ps) qs f g = (f.0, fits_both k ps qs f.1 g)
 
-pub words_both : (t : Titles) (ps qs : List Part) → words_by t (ps ++ qs) ≡ words_by t ps ++ words_by t qs
+pub words_both : (t : Titles) (ps qs : List TreePart) → words_by t (ps ++ qs) ≡ words_by t ps ++ words_by t qs
 words_both t ps qs = map-append (word_of t) ps qs

@@ -12,7 +12,7 @@ use Rattle.typed_tree.specs.declared.expr.NumBuiltin.TheVariants as number
 use Rattle.event_layout.specs.declared.field.Field.{Field}
 use Rattle.typed_tree.specs.Scope.{same_shape, shape_of_field}
 use Rattle.expr_types.specs.Rules.{first_of_rules, are_two}
-use Rattle.typed_tree.specs.Parts.{Part, FieldOf, Numeric, Command, Both, Either, Made, made}
+use Rattle.typed_tree.specs.Parts.{TreePart, FieldOf, Numeric, Command, Both, Either, Made, made}
 
 abbrev pub builtin_made : Builtin → Made
 builtin_made Comm = made Str (Command ∷ [])
@@ -43,7 +43,7 @@ joined_breaks op left right = both_break left right
 abbrev pub choose_breaks : Shape → Shape → Shape → Option Rule
 choose_breaks test first second = first_of_rules ((same_shape test Str, WrongType) ∷ (not (same_shape first second), WrongType) ∷ [])
 
-abbrev pub logical_part : Bool → Part
+abbrev pub logical_part : Bool → TreePart
 logical_part both = cond both Both Either
 
 -- a value of another type than the variable's

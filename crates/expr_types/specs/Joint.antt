@@ -2,7 +2,7 @@
 use Rattle.std.specs.Prelude.{List, ◌∷◌, ◌++◌, Option}
 use Rattle.bt_core.specs.declared.map.Shape.{Shape}
 use Rattle.bt_core.specs.declared.place.Place.{Place}
-use Rattle.typed_tree.specs.Parts.{Part, Joined, Both, Either}
+use Rattle.typed_tree.specs.Parts.{TreePart, Joined, Both, Either}
 use Rattle.expr_types.specs.declared.fault.Rule.{Rule}
 use Rattle.expr_types.specs.declared.leaf.Joint.{Joint}
 use Rattle.expr_types.specs.declared.leaf.Joint.TheVariants.{Operator, And, Or}
@@ -10,7 +10,7 @@ use Rattle.expr_types.specs.Join.{joined_breaks, both_break}
 use Rattle.expr_types.specs.Mentions.{Sort, Whole, Point, Word, BinaryWord, AndWord, OrWord}
 use Rattle.expr_types.specs.Walk.{Seen, seen, operands, both_whole}
 
-abbrev pub joint_part : Joint → Part
+abbrev pub joint_part : Joint → TreePart
 joint_part (Operator op) = Joined op
 joint_part And = Both
 joint_part Or = Either

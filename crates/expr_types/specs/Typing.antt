@@ -12,7 +12,7 @@ use Rattle.bt_core.specs.declared.place.Place.{Place}
 use Rattle.fmt_text.specs.Deciding.{format_pieces}
 use Rattle.typed_tree.specs.declared.expr.NumBuiltin.{NumBuiltin}
 use Rattle.typed_tree.specs.declared.expr.NumBuiltin.TheVariants.{Pid, Tid, Uid, Gid, Cpu, Nsecs, Elapsed}
-use Rattle.typed_tree.specs.Parts.{Part, Constant, Literal, Numeric, Command, FieldOf, VarOf, MapOf, AggOf, Stepped, Prefixed, Joined, Both, Either, Chosen}
+use Rattle.typed_tree.specs.Parts.{TreePart, Constant, Literal, Numeric, Command, FieldOf, VarOf, MapOf, AggOf, Stepped, Prefixed, Joined, Both, Either, Chosen}
 use Rattle.typed_tree.specs.Parts.{Assigned, Gathered, Deleted, Printed, Shown, Cleared, Zeroed, Jumped, Looped, Unrolled, Arm, Otherwise, NoOtherwise, Ending, Made}
 use Rattle.typed_tree.specs.Scope.{shape_of_field, kind_of_shape, is_agg, is_summed_kind, is_count, same_bool, leaves_body, takes, may_print}
 use Rattle.expr_types.specs.declared.known.Known.{Known}
@@ -71,7 +71,7 @@ pub record IsCallOf (k : Known) (number : ℕ) (shapes : List Shape) : Type 0 wh
   pub wanted : takes (format_pieces call.text) shapes ≡ true
 
 -- a part has the types that were decided, and breaks no rule
-abbrev pub Fits : Known → Part → Type 0
+abbrev pub Fits : Known → TreePart → Type 0
 Fits k (FieldOf f shape) = (event_field k.event f.name ≡ Some f) × (shape_of_field f.kind ≡ Some shape)
 Fits k (VarOf number shape) = IsVarOf k number shape
 Fits k (MapOf number keys shape) = IsMapOf k number (kind_of_shape shape) keys
@@ -101,7 +101,7 @@ Fits k Otherwise = Unit {0}
 Fits k NoOtherwise = Unit {0}
 Fits k Ending = Unit {0}
 
-abbrev pub AllFit : Known → List Part → Type 0
+abbrev pub AllFit : Known → List TreePart → Type 0
 AllFit k parts = AllByRecursion (Fits k) parts
 
 abbrev pub builtin_of : NumBuiltin → Builtin
@@ -136,7 +136,7 @@ abbrev pub format_title : List (List ℕ × Place) → ℕ → List ℕ × Place
 format_title formats number = elim (slice_get formats number) [ None ↦ no_format | Some format ↦ format ]
 
 -- the script's word for a part
-abbrev pub word_of : Titles → Part → Word
+abbrev pub word_of : Titles → TreePart → Word
 word_of t (Constant number) = NumberWord number
 word_of t (Literal text) = TextWord text
 word_of t (Numeric builtin) = BuiltinWord (builtin_of builtin)
@@ -166,7 +166,7 @@ word_of t Otherwise = ElseWord
 word_of t NoOtherwise = NoElseWord
 word_of t Ending = EndWord
 
-abbrev pub words_by : Titles → List Part → List Word
+abbrev pub words_by : Titles → List TreePart → List Word
 words_by t parts = map (word_of t) parts
 
 -- what was made of an expression, by its type and its words

@@ -12,7 +12,7 @@ use Rattle.bt_core.specs.declared.value.Value.TheVariants.{Int, Str}
 use Rattle.bt_core.specs.declared.map.AggKind.{AggKind}
 use Rattle.map_printer.specs.Buckets.{is_shown, label_of}
 use Rattle.map_printer.specs.Rows.{divided}
-use Rattle.map_rows.specs.Numbers.{number_of, quotient}
+use Rattle.map_rows.specs.Numbers.{number_of, whole_quotient}
 use Rattle.serde_json.specs.Data.{Data, number}
 use Rattle.serde_json.specs.Find.{of_integer}
 use Rattle.serde_json.specs.View.{items_of}
@@ -54,12 +54,12 @@ plain_histogram : (kind : AggKind) (counts : List ℕ) → has_float (list_data 
 plain_histogram kind counts = plain_buckets (label_of kind (length counts - 1)) counts (range_with_len 0 (length counts))
 
 plain_agg : (div : ℤ) (a : Agg) (bs : Buckets) → has_float (agg_data div a bs) ≡ false
-plain_agg div a held.Plain = plain_integer (quotient (number_of a) div)
+plain_agg div a held.Plain = plain_integer (whole_quotient (number_of a) div)
 plain_agg div a (held.Hist counts) = plain_histogram a.kind (divided (unsigned_abs div) counts)
 plain_agg div a (held.Lhist counts) = plain_histogram a.kind (divided (unsigned_abs div) counts)
 
 plain_cell : (div : ℤ) (cell : Cell) → has_float (cell_data div cell) ≡ false
-plain_cell div (cells.Value (Int n)) = plain_integer (quotient n div)
+plain_cell div (cells.Value (Int n)) = plain_integer (whole_quotient n div)
 plain_cell div (cells.Value (Str s)) = refl
 plain_cell div (cells.Agg a) = plain_agg div a a.buckets
 

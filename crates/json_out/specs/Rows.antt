@@ -12,7 +12,7 @@ use Rattle.bt_core.specs.declared.value.Value.{Value}
 use Rattle.bt_core.specs.declared.value.Value.TheVariants.{Int, Str}
 use Rattle.map_printer.specs.Buckets.{is_shown, label_of}
 use Rattle.map_printer.specs.Rows.{divided}
-use Rattle.map_rows.specs.Numbers.{number_of, quotient}
+use Rattle.map_rows.specs.Numbers.{number_of, whole_quotient}
 use Rattle.serde_json.specs.Data.{Data, unsigned, number, object, no_members, member}
 use Rattle.serde_json.specs.Find.{of_integer}
 use Rattle.json_out.specs.Texts.{text_data, list_data}
@@ -36,12 +36,12 @@ buckets kind counts = flat_map (shown_bucket (label_of kind (length counts - 1))
 
 -- a number is divided, a string stays
 abbrev pub divided_value : ℤ → Value → Data
-divided_value div (Int n) = number (of_integer (quotient n div))
+divided_value div (Int n) = number (of_integer (whole_quotient n div))
 divided_value div (Str s) = text_data s
 
 -- the value or each count is divided first
 abbrev pub agg_data : ℤ → Agg → Buckets → Data
-agg_data div a held.Plain = number (of_integer (quotient (number_of a) div))
+agg_data div a held.Plain = number (of_integer (whole_quotient (number_of a) div))
 agg_data div a (held.Hist counts) = list_data (buckets a.kind (divided (unsigned_abs div) counts))
 agg_data div a (held.Lhist counts) = list_data (buckets a.kind (divided (unsigned_abs div) counts))
 

@@ -19,7 +19,7 @@ use bt_core::map::AggKind;
 use bt_core::memory::Memory;
 use bt_core::value::Value;
 use map_printer::row_text::divided;
-use map_rows::numbers::{number_of, quotient};
+use map_rows::numbers::{number_of, whole_quotient};
 use serde_json::{Value as Json, push};
 use std::alloc::Global;
 
@@ -49,7 +49,7 @@ fn divided_value(alloc: Global, value: &Value, div: i64) -> Result<Json, Memory>
     ensures { IfOk result (λ json. view json ≡ divided_value div value.now) }
 {
     match value {
-        Value::Int(n) => Ok(Json::from(quotient(*n, div))),
+        Value::Int(n) => Ok(Json::from(whole_quotient(*n, div))),
         Value::Str(s) => Ok(Json::from(text_of(alloc, s.bytes())?)),
     }
 }
@@ -71,7 +71,7 @@ fn agg_value(alloc: Global, agg: &Agg, div: i64) -> Result<Json, Memory>
     ensures { IfOk result (λ json. view json ≡ agg_data div agg.now agg.now.buckets) }
 {
     match &agg.buckets {
-        Buckets::Plain => Ok(Json::from(quotient(number_of(agg), div))),
+        Buckets::Plain => Ok(Json::from(whole_quotient(number_of(agg), div))),
         Buckets::Hist(counts) => divided_buckets(alloc, agg.kind, counts, div.unsigned_abs()),
         Buckets::Lhist(counts) => {
             divided_buckets(alloc, agg.kind, counts.as_slice(), div.unsigned_abs())

@@ -13,7 +13,7 @@ use Rattle.bt_core.specs.KeyBytes.{part_of}
 use Rattle.bt_core.specs.Ports.{Setting}
 use Rattle.map_ops.specs.declared.sweep.Sweep.{Sweep}
 use Rattle.map_ops.specs.declared.sweep.Sweep.TheVariants.{Read, Clear, Zero}
-use Rattle.map_ops.specs.Parts.{parts_in}
+use Rattle.map_ops.specs.Parts.{part_count}
 
 -- the part of a shared map that a key is in
 abbrev pub part : MapId → List Value → ObjectId
@@ -34,7 +34,7 @@ holder kind m n = Shared m n
 
 abbrev pub holders : MapKind → ℕ → ℕ
 holders (Aggs kind) actors = actors
-holders kind actors = parts_in kind
+holders kind actors = part_count kind
 
 -- the operation of a sweep on one of them
 abbrev pub sweep_op : Sweep → MapKind → MapId → Op

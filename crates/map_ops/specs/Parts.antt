@@ -13,6 +13,6 @@ abbrev pub is_part_number : ℕ → Bool
 is_part_number part = nat_lt part PARTS
 
 -- how many parts a map of this kind has: none where it is an aggregation
-abbrev pub parts_in : MapKind → ℕ
-parts_in (Aggs kind) = 0
-parts_in kind = PARTS
+abbrev pub part_count : MapKind → ℕ
+part_count (Aggs kind) = 0
+part_count kind = PARTS

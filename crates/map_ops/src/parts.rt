@@ -1,13 +1,13 @@
 // The parts of shared maps.
 ghost use Rattle.std.specs.Prelude.{◌≡◌};
-ghost use Rattle.map_ops.specs.Parts.{is_part_number, parts_in};
+ghost use Rattle.map_ops.specs.Parts.{is_part_number, part_count};
 
 use bt_core::limits::PARTS;
 use bt_core::map::MapKind;
 
 /// How many parts a map of this kind has: none where it is an aggregation.
-pub fn parts_in(kind: MapKind) -> u32
-    ensures { result ≡ parts_in kind }
+pub fn part_count(kind: MapKind) -> u32
+    ensures { result ≡ part_count kind }
 {
     match kind {
         MapKind::Aggs(_) => 0,

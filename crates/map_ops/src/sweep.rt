@@ -6,7 +6,7 @@ ghost use Rattle.map_ops.specs.declared.sweep.Sweep.TheVariants as sweeps;
 ghost use Rattle.map_ops.specs.Asking.{swept};
 ghost use Rattle.map_ops.specs.Holders.{holder, holders, sweep_op, CanSweep};
 
-use crate::parts::parts_in;
+use crate::parts::part_count;
 use bt_core::items::Items;
 use bt_core::map::{MapId, MapKind};
 use bt_core::memory::Memory;
@@ -39,8 +39,8 @@ fn holders(kind: MapKind, actors: u32) -> u32
 {
     match kind {
         MapKind::Aggs(_) => actors,
-        MapKind::Ints => parts_in(kind),
-        MapKind::Strs => parts_in(kind),
+        MapKind::Ints => part_count(kind),
+        MapKind::Strs => part_count(kind),
     }
 }
 

@@ -2,7 +2,7 @@
 ghost use Rattle.std.specs.Prelude.{◌≡◌, drop};
 ghost use Rattle.bt_core.specs.Order.{key_order};
 ghost use Rattle.agg_core.specs.Changes.{is_key};
-ghost use Rattle.map_rows.specs.Numbers.{quotient, or_zero, number_of, number_by};
+ghost use Rattle.map_rows.specs.Numbers.{whole_quotient, number_or_zero, number_of, number_by};
 ghost use Rattle.map_rows.specs.UnderKey.{cell_number, number_under};
 
 use bt_core::agg::Agg;
@@ -14,8 +14,8 @@ use bt_core::operator::BinOp;
 use bt_core::order::compare_keys;
 
 /// What the operator `/` of scripts gives: truncated, and 0 where the divisor is 0.
-pub fn quotient(a: i64, b: i64) -> i64
-    ensures { result ≡ quotient a b }
+pub fn whole_quotient(a: i64, b: i64) -> i64
+    ensures { result ≡ whole_quotient a b }
 {
     binary(BinOp::Div, a, b)
 }
@@ -29,7 +29,7 @@ pub fn number_of(agg: &Agg) -> i64
         AggKind::Sum => agg.sum,
         AggKind::Min => agg.least.unwrap_or(0),
         AggKind::Max => agg.greatest.unwrap_or(0),
-        AggKind::Avg => quotient(agg.sum, agg.count),
+        AggKind::Avg => whole_quotient(agg.sum, agg.count),
         AggKind::Hist | AggKind::Lhist { .. } => 0,
     }
 }

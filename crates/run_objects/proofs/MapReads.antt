@@ -5,7 +5,7 @@ use Rattle.std.specs.List.{range_with_len}
 use Rattle.std.proofs.lemmas.List.{drop_all, drop_more}
 use Rattle.std.proofs.lemmas.Option.{slice_get-get_or}
 use Rattle.std.proofs.lemmas.List.Elements.{All-nil}
-use Rattle.map_ops.specs.Parts.{parts_in}
+use Rattle.map_ops.specs.Parts.{part_count}
 use Rattle.map_ops.proofs.PartLaws.{part_has_number}
 use Rattle.bt_core.specs.declared.map.AggKind.{AggKind}
 use Rattle.bt_core.specs.declared.map.MapDecl.{MapDecl}
@@ -66,21 +66,21 @@ module _ (at : Moment) (m : MapId) (decl : MapDecl) (there : slice_get at.world.
 
   -- ---- a shared map
 
-  losses_by : (kind : MapKind) → IsShared kind → sum (map (λ object. lost_by kind m (operations_at object at.steps)) (holders_of at.world.maps at.world.cpus kind m)) ≡ sum (of_first (part_lost at.world.maps at.steps m) (parts_in kind))
-  losses_by Ints sh = ap sum (map_twice (λ object. lost_by Ints m (operations_at object at.steps)) (holder Ints m) (range_with_len 0 (parts_in Ints)))
-  losses_by Strs sh = ap sum (map_twice (λ object. lost_by Strs m (operations_at object at.steps)) (holder Strs m) (range_with_len 0 (parts_in Strs)))
+  losses_by : (kind : MapKind) → IsShared kind → sum (map (λ object. lost_by kind m (operations_at object at.steps)) (holders_of at.world.maps at.world.cpus kind m)) ≡ sum (of_first (part_lost at.world.maps at.steps m) (part_count kind))
+  losses_by Ints sh = ap sum (map_twice (λ object. lost_by Ints m (operations_at object at.steps)) (holder Ints m) (range_with_len 0 (part_count Ints)))
+  losses_by Strs sh = ap sum (map_twice (λ object. lost_by Strs m (operations_at object at.steps)) (holder Strs m) (range_with_len 0 (part_count Strs)))
   losses_by (Aggs k) sh = absurd sh
 
-  pub part_losses : IsShared decl.kind → lost_after at.world.maps at.world.cpus at.steps m decl ≡ sum (of_first (part_lost at.world.maps at.steps m) (parts_in decl.kind))
+  pub part_losses : IsShared decl.kind → lost_after at.world.maps at.world.cpus at.steps m decl ≡ sum (of_first (part_lost at.world.maps at.steps m) (part_count decl.kind))
   part_losses sh = losses_by decl.kind sh
 
-  reads_by : (kind : MapKind) → IsShared kind → read_of at.world.maps at.world.cpus kind m at.steps ≡ of_first (λ p. answers at.world (Shared m p) (operations_at (Shared m p) at.steps) ReadAll) (parts_in kind)
-  reads_by Ints sh = map_twice (λ object. answers at.world object (operations_at object at.steps) ReadAll) (holder Ints m) (range_with_len 0 (parts_in Ints))
-  reads_by Strs sh = map_twice (λ object. answers at.world object (operations_at object at.steps) ReadAll) (holder Strs m) (range_with_len 0 (parts_in Strs))
+  reads_by : (kind : MapKind) → IsShared kind → read_of at.world.maps at.world.cpus kind m at.steps ≡ of_first (λ p. answers at.world (Shared m p) (operations_at (Shared m p) at.steps) ReadAll) (part_count kind)
+  reads_by Ints sh = map_twice (λ object. answers at.world object (operations_at object at.steps) ReadAll) (holder Ints m) (range_with_len 0 (part_count Ints))
+  reads_by Strs sh = map_twice (λ object. answers at.world object (operations_at object at.steps) ReadAll) (holder Strs m) (range_with_len 0 (part_count Strs))
   reads_by (Aggs k) sh = absurd sh
 
-  pub part_reads : IsShared decl.kind → read_of at.world.maps at.world.cpus decl.kind m at.steps ≡ of_first (part_reply at.world.maps at.steps m decl) (parts_in decl.kind)
-  part_reads sh = reads_by decl.kind sh ∙ ap (λ (o : Option MapDecl). of_first (λ p. shared_answer (kind_of_decl o) (operations_at (Shared m p) at.steps) ReadAll) (parts_in decl.kind)) there
+  pub part_reads : IsShared decl.kind → read_of at.world.maps at.world.cpus decl.kind m at.steps ≡ of_first (part_reply at.world.maps at.steps m decl) (part_count decl.kind)
+  part_reads sh = reads_by decl.kind sh ∙ ap (λ (o : Option MapDecl). of_first (λ p. shared_answer (kind_of_decl o) (operations_at (Shared m p) at.steps) ReadAll) (part_count decl.kind)) there
 
   -- ---- the replies are those to who reads the map
 
@@ -89,12 +89,12 @@ module _ (at : Moment) (m : MapId) (decl : MapDecl) (there : slice_get at.world.
     agg_fit kind e a lt = and_some _ decl (slice_get at.world.maps m.0) there
         (answer_is_of_its_kind at.world (Cpu a) (Read m) at.steps fine possible (lt, some_and (λ d. IsAggregation d.kind) decl (slice_get at.world.maps m.0) there (subst IsAggregation (sym e) tt)))
 
-    part_fit : IsShared decl.kind → (p : ℕ) → p < parts_in decl.kind → IsReadReply decl (answers at.world (Shared m p) (operations_at (Shared m p) at.steps) ReadAll)
+    part_fit : IsShared decl.kind → (p : ℕ) → p < part_count decl.kind → IsReadReply decl (answers at.world (Shared m p) (operations_at (Shared m p) at.steps) ReadAll)
     part_fit sh p lt = and_some _ decl (slice_get at.world.maps m.0) there
         (answer_is_of_its_kind at.world (Shared m p) ReadAll at.steps fine possible (part_has_number decl.kind p lt, some_and (λ d. IsShared d.kind × IsSharedOp d ReadAll) decl (slice_get at.world.maps m.0) there (sh, tt)))
 
     shared_fit : IsShared decl.kind → All (IsReadReply decl) (read_of at.world.maps at.world.cpus decl.kind m at.steps)
-    shared_fit sh = subst (All (IsReadReply decl)) (sym (reads_by decl.kind sh)) (all_first (IsReadReply decl) (λ p. answers at.world (Shared m p) (operations_at (Shared m p) at.steps) ReadAll) (parts_in decl.kind) (part_fit sh))
+    shared_fit sh = subst (All (IsReadReply decl)) (sym (reads_by decl.kind sh)) (all_first (IsReadReply decl) (λ p. answers at.world (Shared m p) (operations_at (Shared m p) at.steps) ReadAll) (part_count decl.kind) (part_fit sh))
 
     fit_by : (kind : MapKind) → decl.kind ≡ kind → All (IsReadReply decl) (read_of at.world.maps at.world.cpus decl.kind m at.steps)
     fit_by (Aggs k) e = subst (All (IsReadReply decl)) (sym (table_reads k e)) (all_first (IsReadReply decl) (table_reply at.world.maps at.steps m) (at.world.cpus + 1) (agg_fit k e))

@@ -5,7 +5,7 @@ use Rattle.bt_core.specs.declared.map.MapDecl.{MapDecl}
 use Rattle.bt_core.specs.declared.step.ObjectId.TheVariants.{Shared, Cpu}
 use Rattle.bt_core.specs.declared.step.Step.{Step}
 use Rattle.bt_core.specs.Kinds.{IsFineDecl}
-use Rattle.map_ops.specs.Parts.{parts_in}
+use Rattle.map_ops.specs.Parts.{part_count}
 use Rattle.turn_lock.specs.History.{Each}
 use Rattle.step_objects.specs.declared.shared.SharedPart.{SharedPart}
 use Rattle.step_objects.specs.CpuTables.{map_at}
@@ -29,7 +29,7 @@ part_list parts = parts.items
 
 -- all parts of the map with this number: none of an aggregation
 pub record AreParts (w : World) (steps : List Step) (m : ℕ) (parts : List SharedPart) : Type 0 where
-  pub count : (decl : MapDecl) → slice_get w.maps m ≡ Some decl → length parts ≡ parts_in decl.kind
+  pub count : (decl : MapDecl) → slice_get w.maps m ≡ Some decl → length parts ≡ part_count decl.kind
   pub each : AllStandAt shared_kind SharedStands (IsPartOf w.maps m) steps (Shared (map_at m)) parts
 
 -- all objects of a world that hold maps

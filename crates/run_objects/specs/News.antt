@@ -2,7 +2,7 @@
 use Rattle.std.specs.Prelude.{◌≡◌, ℕ, List, [], All, length, slice_get, slice_index_or, Some}
 use Rattle.bt_core.specs.declared.map.MapDecl.{MapDecl}
 use Rattle.bt_core.specs.declared.step.Op.{Op}
-use Rattle.map_ops.specs.Parts.{parts_in}
+use Rattle.map_ops.specs.Parts.{part_count}
 use Rattle.step_objects.specs.CpuTables.{map_at}
 use Rattle.step_objects.specs.Objects.{shared_kind, SharedStands}
 use Rattle.run_objects.specs.declared.objects.MapParts.{MapParts}
@@ -21,7 +21,7 @@ AreNew kind_of holds kind list = All (IsNew kind_of holds kind) list
 -- all parts of a map: none of an aggregation
 pub record AreNewParts (map : ℕ) (decl : MapDecl) (list : MapParts) : Type 0 where
   pub new : AreNew shared_kind SharedStands (record { map = map_at map; decl = decl }) list.parts.items
-  pub count : length list.parts.items ≡ parts_in decl.kind
+  pub count : length list.parts.items ≡ part_count decl.kind
 
 -- those of each map at its number
 pub record NewMaps (maps : List MapDecl) (all : List MapParts) : Type 0 where

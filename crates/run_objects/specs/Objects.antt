@@ -7,7 +7,7 @@ use Rattle.bt_core.specs.declared.step.Op.{Op}
 use Rattle.bt_core.specs.declared.step.Reply.{Reply}
 use Rattle.bt_core.specs.declared.step.Step.{Step}
 use Rattle.bt_core.specs.Steps.{on_object, operations}
-use Rattle.map_ops.specs.Parts.{parts_in}
+use Rattle.map_ops.specs.Parts.{part_count}
 use Rattle.step_objects.specs.declared.shared.PartKind.{PartKind}
 use Rattle.step_objects.specs.Clocks.{clock_kind, ClockStands}
 use Rattle.step_objects.specs.CpuTables.{map_at}
@@ -45,7 +45,7 @@ pub record IsPartOf (maps : List MapDecl) (m : ℕ) (of : PartKind) : Type 0 whe
 
 -- all parts of a map: none of an aggregation
 pub record PartsStand (w : World) (steps : List Step) (m : ℕ) (list : MapParts) : Type 0 where
-  pub count : (decl : MapDecl) → slice_get w.maps m ≡ Some decl → length list.parts.items ≡ parts_in decl.kind
+  pub count : (decl : MapDecl) → slice_get w.maps m ≡ Some decl → length list.parts.items ≡ part_count decl.kind
   pub each : AllStand shared_kind SharedStands (IsPartOf w.maps m) steps (Shared (map_at m)) list.parts.items
 
 -- all objects of a world

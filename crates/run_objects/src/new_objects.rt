@@ -11,7 +11,7 @@ use crate::own::OwnObject;
 use bt_core::items::Items;
 use bt_core::map::{MapDecl, MapId};
 use bt_core::memory::{Memory, TryCopy};
-use map_ops::parts::parts_in;
+use map_ops::parts::part_count;
 use std::alloc::Global;
 use step_objects::clock::TickClock;
 use step_objects::cpu::CpuTable;
@@ -23,7 +23,7 @@ fn parts_of(alloc: Global, map: u32, decl: &MapDecl) -> Result<MapParts, Memory>
     ensures { IfOk result (λ list. AreNewParts map decl.now list) }
 {
     let mut parts = Vec::new(alloc);
-    for _ in 0..parts_in(decl.kind) {
+    for _ in 0..part_count(decl.kind) {
         let object = SharedPart::new(alloc, MapId(map), decl.try_copy(alloc)?)?;
         parts.push(OwnObject { object, clock: 0 })?;
     }

@@ -17,9 +17,9 @@ use Rattle.stamped.specs.SetSteps.{IsReplied}
 use Rattle.stamped.specs.Traces.{steps_of}
 use Rattle.stamped.proofs.OutcomeLemmas.{each_all}
 use Rattle.step_objects.specs.CpuTables.{map_at}
-use Rattle.map_ops.specs.Parts.{parts_in}
+use Rattle.map_ops.specs.Parts.{part_count}
 use Rattle.map_ops.proofs.PartLaws.{shared_has_part}
-use Rattle.shared_maps.specs.Parts.{Part, IsPart, IsPartStep, IsPartFor, parts_from, firsts_from}
+use Rattle.shared_maps.specs.Parts.{Part, IsMapPart, IsPartStep, IsPartFor, parts_from, firsts_from}
 use Rattle.shared_maps.proofs.PlaceLemmas.{part_place}
 
 pub there_is : {A : Type 0} (P : A → Type 0) (o : Option A) → IsSomeAnd o P → (x : A) × (o ≡ Some x) × P x
@@ -30,17 +30,17 @@ some_and : {A : Type 0} (P Q : A → Type 0) (o : Option A) → ((x : A) → P x
 some_and P Q (Some x) f h = f x h
 some_and P Q None f h = absurd h
 
-pub step_is_at_part : (maps : List MapDecl) (object : ObjectId) (op : Op) → IsPartStep maps object op → IsPart maps object
+pub step_is_at_part : (maps : List MapDecl) (object : ObjectId) (op : Op) → IsPartStep maps object op → IsMapPart maps object
 step_is_at_part maps (Shared m p) op h = (h.0, some_and (λ (d : MapDecl). IsShared d.kind × IsSharedOp d op) (λ (d : MapDecl). IsShared d.kind) (slice_get maps m.0) (λ d s. s.0) h.1)
 step_is_at_part maps (Cpu a) op h = absurd h
 step_is_at_part maps Clock op h = absurd h
 step_is_at_part maps Out op h = absurd h
 
 -- the place that is counted from where the map's parts begin
-pub part_there : (maps : List MapDecl) (m : MapId) (p first : ℕ) → IsPart maps (Shared m p) → first ≡ get_or (firsts_from 0 maps) m.0 first
+pub part_there : (maps : List MapDecl) (m : MapId) (p first : ℕ) → IsMapPart maps (Shared m p) → first ≡ get_or (firsts_from 0 maps) m.0 first
     → IsSomeAnd (slice_get (parts_from 0 maps) (first + p)) (IsPartFor maps (Shared m p))
 part_there maps m p first h at =
-    let d = there_is (λ (d : MapDecl). IsShared d.kind) (slice_get maps m.0) h.1 in let lt : p < parts_in d.0.kind = shared_has_part d.0.kind p d.2 h.0 in
+    let d = there_is (λ (d : MapDecl). IsShared d.kind) (slice_get maps m.0) h.1 in let lt : p < part_count d.0.kind = shared_has_part d.0.kind p d.2 h.0 in
     let e = part_place 0 0 [] maps m.0 p first d.0 refl d.1 lt at in let z : 0 + m.0 ≡ m.0 = omega arith in
     subst (λ o. IsSomeAnd o (IsPartFor maps (Shared m p))) (sym e)
     (ap (λ n. Shared (map_at n) p) z, ap map_at z, d.1)

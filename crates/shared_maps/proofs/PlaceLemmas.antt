@@ -13,7 +13,7 @@ use Rattle.stamped.proofs.NumberedLemmas.{numbered_length, numbered_get, numbere
 use Rattle.step_objects.specs.declared.shared.SharedPart.{SharedPart}
 use Rattle.step_objects.specs.CpuTables.{map_at}
 use Rattle.step_objects.specs.Objects.{shared_kind}
-use Rattle.map_ops.specs.Parts.{parts_in}
+use Rattle.map_ops.specs.Parts.{part_count}
 use Rattle.shared_maps.specs.Parts.{Part, part_at, parts_from, firsts_from, made_for}
 
 get_right : {A : Type 0} (xs ys : List A) (k : ℕ) → slice_get (xs ++ ys) (length xs + k) ≡ slice_get ys k
@@ -27,22 +27,22 @@ get_left (y ∷ xs) ys (suc k) x e = get_left xs ys k x e
 
 pub firsts_length : (k : ℕ) (decls : List MapDecl) → length (firsts_from k decls) ≡ length decls
 firsts_length k [] = refl
-firsts_length k (d ∷ ds) = ap suc (firsts_length (k + parts_in d.kind) ds)
+firsts_length k (d ∷ ds) = ap suc (firsts_length (k + part_count d.kind) ds)
 
 -- the part of a map, where all maps' parts stand behind these
-pub part_place : (m k : ℕ) (done : List Part) (decls : List MapDecl) (j p first : ℕ) (decl : MapDecl) → length done ≡ k → slice_get decls j ≡ Some decl → p < parts_in decl.kind
+pub part_place : (m k : ℕ) (done : List Part) (decls : List MapDecl) (j p first : ℕ) (decl : MapDecl) → length done ≡ k → slice_get decls j ≡ Some decl → p < part_count decl.kind
     → first ≡ get_or (firsts_from k decls) j first → slice_get (done ++ parts_from m decls) (first + p) ≡ Some (part_at (m + j) decl p)
 part_place m k done [] j p first decl long e lt at = let no : ⊥ = cc in absurd no
 part_place m k done (d ∷ ds) zero p first decl long e lt at =
-    let same : decl ≡ d = cc in let own = numbered (part_at m d) 0 (parts_in d.kind) in
+    let same : decl ≡ d = cc in let own = numbered (part_at m d) 0 (part_count d.kind) in
     ap (slice_get (done ++ (own ++ parts_from (m + 1) ds))) (let q : first + p ≡ length done + p = omega arith in q)
     ∙ get_right done (own ++ parts_from (m + 1) ds) p
-    ∙ get_left own (parts_from (m + 1) ds) p (part_at m d (0 + p)) (numbered_get (part_at m d) 0 (parts_in d.kind) p (subst (λ (e : MapDecl). p < parts_in e.kind) same lt))
+    ∙ get_left own (parts_from (m + 1) ds) p (part_at m d (0 + p)) (numbered_get (part_at m d) 0 (part_count d.kind) p (subst (λ (e : MapDecl). p < part_count e.kind) same lt))
     ∙ ap Some (λ i. part_at ((let z : m ≡ m + 0 = omega arith in z) i) (sym same i) ((let z : 0 + p ≡ p = omega arith in z) i))
 part_place m k done (d ∷ ds) (suc j) p first decl long e lt at =
-    let own = numbered (part_at m d) 0 (parts_in d.kind) in let n = numbered_length (part_at m d) 0 (parts_in d.kind) in let l = length-append done own in
+    let own = numbered (part_at m d) 0 (part_count d.kind) in let n = numbered_length (part_at m d) 0 (part_count d.kind) in let l = length-append done own in
     ap (λ (parts : List Part). slice_get parts (first + p)) (sym (append_assoc done own (parts_from (m + 1) ds)))
-    ∙ part_place (m + 1) (k + parts_in d.kind) (done ++ own) ds j p first decl (omega arith) e lt at
+    ∙ part_place (m + 1) (k + part_count d.kind) (done ++ own) ds j p first decl (omega arith) e lt at
     ∙ ap (λ q. Some (part_at q decl p)) (let z : m + 1 + j ≡ m + suc j = omega arith in z)
 
 -- no two parts are the same object
@@ -52,41 +52,41 @@ id_of part = part.0
 later : (m p k : ℕ) (decls : List MapDecl) → m < k → Each (λ o. Shared (map_at m) p ≢ o) (map id_of (parts_from k decls))
 later m p k [] lt = tt
 later m p k (d ∷ ds) lt =
-    let own = numbered (part_at k d) 0 (parts_in d.kind) in
+    let own = numbered (part_at k d) 0 (part_count d.kind) in
     subst (Each (λ o. Shared (map_at m) p ≢ o)) (sym (map-append id_of own (parts_from (k + 1) ds)))
     (each_both (λ o. Shared (map_at m) p ≢ o) (map id_of own) (map id_of (parts_from (k + 1) ds))
-    (subst (Each (λ o. Shared (map_at m) p ≢ o)) (sym (numbered_map (part_at k d) id_of 0 (parts_in d.kind)))
-    (numbered_each (λ q. Shared (map_at k) q) (λ o. Shared (map_at m) p ≢ o) (λ q e. let same : map_at m ≡ map_at k = cc in let number : m ≡ k = ap (λ (id : MapId). id.0) same in omega arith) 0 (parts_in d.kind)))
+    (subst (Each (λ o. Shared (map_at m) p ≢ o)) (sym (numbered_map (part_at k d) id_of 0 (part_count d.kind)))
+    (numbered_each (λ q. Shared (map_at k) q) (λ o. Shared (map_at m) p ≢ o) (λ q e. let same : map_at m ≡ map_at k = cc in let number : m ≡ k = ap (λ (id : MapId). id.0) same in omega arith) 0 (part_count d.kind)))
     (later m p (k + 1) ds (omega arith)))
 
 pub parts_are_distinct : (m : ℕ) (decls : List MapDecl) → AreDistinct (map id_of (parts_from m decls))
 parts_are_distinct m [] = tt
 parts_are_distinct m (d ∷ ds) =
-    let own = numbered (part_at m d) 0 (parts_in d.kind) in let ids = numbered (λ q. Shared (map_at m) q) 0 (parts_in d.kind) in let rest = map id_of (parts_from (m + 1) ds) in
-    subst AreDistinct (sym (map-append id_of own (parts_from (m + 1) ds) ∙ ap (λ (l : List ObjectId). l ++ rest) (numbered_map (part_at m d) id_of 0 (parts_in d.kind))))
-    (distinct_both ids rest (numbered_distinct (λ q. Shared (map_at m) q) (λ a b lt e. let same : a ≡ b = cc in omega arith) 0 (parts_in d.kind)) (parts_are_distinct (m + 1) ds)
-    (numbered_each (λ q. Shared (map_at m) q) (λ x. Each (λ y. x ≢ y) rest) (λ q. later m q (m + 1) ds (omega arith)) 0 (parts_in d.kind)))
+    let own = numbered (part_at m d) 0 (part_count d.kind) in let ids = numbered (λ q. Shared (map_at m) q) 0 (part_count d.kind) in let rest = map id_of (parts_from (m + 1) ds) in
+    subst AreDistinct (sym (map-append id_of own (parts_from (m + 1) ds) ∙ ap (λ (l : List ObjectId). l ++ rest) (numbered_map (part_at m d) id_of 0 (part_count d.kind))))
+    (distinct_both ids rest (numbered_distinct (λ q. Shared (map_at m) q) (λ a b lt e. let same : a ≡ b = cc in omega arith) 0 (part_count d.kind)) (parts_are_distinct (m + 1) ds)
+    (numbered_each (λ q. Shared (map_at m) q) (λ x. Each (λ y. x ≢ y) rest) (λ q. later m q (m + 1) ds (omega arith)) 0 (part_count d.kind)))
 
 -- one map more, of all maps
-pub parts_step : (done new all : List Part) (maps : List MapDecl) (n : ℕ) (decl : MapDecl) → drop n maps ≡ decl ∷ drop (n + 1) maps → new ≡ done ++ numbered (part_at n decl) 0 (parts_in decl.kind)
+pub parts_step : (done new all : List Part) (maps : List MapDecl) (n : ℕ) (decl : MapDecl) → drop n maps ≡ decl ∷ drop (n + 1) maps → new ≡ done ++ numbered (part_at n decl) 0 (part_count decl.kind)
     → done ++ parts_from n (drop n maps) ≡ all → new ++ parts_from (n + 1) (drop (n + 1) maps) ≡ all
 parts_step done new all maps n decl e grew h = ap (λ (l : List Part). l ++ parts_from (n + 1) (drop (n + 1) maps)) grew
-    ∙ append_assoc done (numbered (part_at n decl) 0 (parts_in decl.kind)) (parts_from (n + 1) (drop (n + 1) maps))
+    ∙ append_assoc done (numbered (part_at n decl) 0 (part_count decl.kind)) (parts_from (n + 1) (drop (n + 1) maps))
     ∙ ap (λ (ds : List MapDecl). done ++ parts_from n ds) (sym e) ∙ h
 
-pub firsts_step : (done new all : List ℕ) (maps : List MapDecl) (n k j : ℕ) (decl : MapDecl) → drop n maps ≡ decl ∷ drop (n + 1) maps → j ≡ k + parts_in decl.kind → new ≡ done ++ k ∷ []
+pub firsts_step : (done new all : List ℕ) (maps : List MapDecl) (n k j : ℕ) (decl : MapDecl) → drop n maps ≡ decl ∷ drop (n + 1) maps → j ≡ k + part_count decl.kind → new ≡ done ++ k ∷ []
     → done ++ firsts_from k (drop n maps) ≡ all → new ++ firsts_from j (drop (n + 1) maps) ≡ all
 firsts_step done new all maps n k j decl e more grew h = (λ i. grew i ++ firsts_from (more i) (drop (n + 1) maps))
-    ∙ append_assoc done (k ∷ []) (firsts_from (k + parts_in decl.kind) (drop (n + 1) maps))
+    ∙ append_assoc done (k ∷ []) (firsts_from (k + part_count decl.kind) (drop (n + 1) maps))
     ∙ ap (λ (ds : List MapDecl). done ++ firsts_from k ds) (sym e) ∙ h
 
 pub made_length : (objects : List (ObjectId × SharedPart)) → length (made_for objects) ≡ length objects
 made_length objects = length-map objects (λ (o : ObjectId × SharedPart). let part : Part = (o.0, shared_kind o.1) in part)
 
-pub count_more : (old new : List (ObjectId × SharedPart)) (n : ℕ) (decl : MapDecl) → made_for new ≡ made_for old ++ numbered (part_at n decl) 0 (parts_in decl.kind)
-    → length new ≡ length old + parts_in decl.kind
-count_more old new n decl e = sym (made_length new) ∙ ap length e ∙ length-append (made_for old) (numbered (part_at n decl) 0 (parts_in decl.kind))
-    ∙ (λ i. made_length old i + numbered_length (part_at n decl) 0 (parts_in decl.kind) i)
+pub count_more : (old new : List (ObjectId × SharedPart)) (n : ℕ) (decl : MapDecl) → made_for new ≡ made_for old ++ numbered (part_at n decl) 0 (part_count decl.kind)
+    → length new ≡ length old + part_count decl.kind
+count_more old new n decl e = sym (made_length new) ∙ ap length e ∙ length-append (made_for old) (numbered (part_at n decl) 0 (part_count decl.kind))
+    ∙ (λ i. made_length old i + numbered_length (part_at n decl) 0 (part_count decl.kind) i)
 
 -- what is told of each object by what it is made for
 pub told_of : {A : Type 0} (f : Part → A) (objects : List (ObjectId × SharedPart)) → map (λ (o : ObjectId × SharedPart). f (o.0, shared_kind o.1)) objects ≡ map f (made_for objects)

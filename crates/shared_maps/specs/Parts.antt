@@ -6,7 +6,7 @@ use Rattle.bt_core.specs.declared.step.ObjectId.TheVariants.{Shared}
 use Rattle.bt_core.specs.declared.step.Op.{Op}
 use Rattle.bt_core.specs.Kinds.{IsShared}
 use Rattle.bt_core.specs.Ports.{Serves, IsSharedOp}
-use Rattle.map_ops.specs.Parts.{IsPartNumber, parts_in}
+use Rattle.map_ops.specs.Parts.{IsPartNumber, part_count}
 use Rattle.stamped.specs.Numbered.{numbered}
 use Rattle.step_objects.specs.declared.shared.PartKind.{PartKind}
 use Rattle.step_objects.specs.declared.shared.SharedPart.{SharedPart}
@@ -19,9 +19,9 @@ IsPartStep maps (Shared map part) op = IsPartNumber part × Serves maps map (λ 
 IsPartStep maps object op = ⊥
 
 -- a part of a declared map
-abbrev pub IsPart : List MapDecl → ObjectId → Type 0
-IsPart maps (Shared map part) = IsPartNumber part × Serves maps map (λ decl. IsShared decl.kind)
-IsPart maps object = ⊥
+abbrev pub IsMapPart : List MapDecl → ObjectId → Type 0
+IsMapPart maps (Shared map part) = IsPartNumber part × Serves maps map (λ decl. IsShared decl.kind)
+IsMapPart maps object = ⊥
 
 -- an object, and what it is made for
 abbrev pub Part : Type 0
@@ -34,12 +34,12 @@ part_at m decl p = (Shared (map_at m) p, record { map = map_at m; decl = decl })
 -- the parts of these maps, whose numbers begin at m, map by map
 abbrev pub parts_from : ℕ → List MapDecl → List Part
 parts_from m [] = []
-parts_from m (decl ∷ decls) = numbered (part_at m decl) 0 (parts_in decl.kind) ++ parts_from (m + 1) decls
+parts_from m (decl ∷ decls) = numbered (part_at m decl) 0 (part_count decl.kind) ++ parts_from (m + 1) decls
 
 -- where the parts of each map begin, the first at k
 abbrev pub firsts_from : ℕ → List MapDecl → List ℕ
 firsts_from k [] = []
-firsts_from k (decl ∷ decls) = k ∷ firsts_from (k + parts_in decl.kind) decls
+firsts_from k (decl ∷ decls) = k ∷ firsts_from (k + part_count decl.kind) decls
 
 -- each object with what it is made for
 abbrev pub made_for : List (ObjectId × SharedPart) → List Part

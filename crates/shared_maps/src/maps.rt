@@ -12,7 +12,7 @@ ghost use Rattle.stamped.specs.SetEnds.{AreClosed};
 ghost use Rattle.stamped.specs.Traces.{actor_of, clock_of, steps_of, HasRoom, IsSame, at_object};
 ghost use Rattle.step_objects.specs.declared.shared.PartKind.{PartKind};
 ghost use Rattle.step_objects.specs.Objects.{shared_kind, SharedStands};
-ghost use Rattle.shared_maps.specs.Parts.{Part, IsPart, IsPartFor, IsPartStep, parts_from, firsts_from};
+ghost use Rattle.shared_maps.specs.Parts.{Part, IsMapPart, IsPartFor, IsPartStep, parts_from, firsts_from};
 ghost use Rattle.shared_maps.specs.Refusals.{RefusesAt};
 
 use crate::objects::new_parts;
@@ -83,7 +83,7 @@ impl SharedMaps {
 
     // The place of a part.
     fn place_of(&self, object: ObjectId) -> usize
-        requires { IsPart (part_maps self.now) object }
+        requires { IsMapPart (part_maps self.now) object }
         ensures { IsSomeAnd (slice_get (parts_from 0 (part_maps self.now)) result) (IsPartFor (part_maps self.now) object) }
     {
         match object {

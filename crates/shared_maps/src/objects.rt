@@ -3,13 +3,13 @@ ghost use Rattle.std.specs.Prelude.{◌≡◌, ◌≤◌, ◌^◌, [], ◌++◌,
 ghost use Rattle.turn_lock.specs.History.{Each};
 ghost use Rattle.stamped.specs.Numbered.{numbered};
 ghost use Rattle.step_objects.specs.Objects.{SharedStands};
-ghost use Rattle.map_ops.specs.Parts.{parts_in};
+ghost use Rattle.map_ops.specs.Parts.{part_count};
 ghost use Rattle.shared_maps.specs.Parts.{part_at, parts_from, firsts_from, made_for};
 
 use bt_core::map::{MapDecl, MapId};
 use bt_core::memory::{Memory, TryCopy};
 use bt_core::step::ObjectId;
-use map_ops::parts::parts_in;
+use map_ops::parts::part_count;
 use std::alloc::Global;
 use step_objects::shared::SharedPart;
 
@@ -28,10 +28,10 @@ fn number(place: usize) -> Result<u32, Memory>
 fn push_map(alloc: Global, objects: &mut Parts, number: u32, decl: &MapDecl) -> Result<(), Memory>
     requires stand { Each (λ object. SharedStands object.1 []) objects.old.items }
     ensures parts { OnOk result (made_for objects.new.items ≡
-        made_for objects.old.items ++ numbered (part_at number decl.now) 0 (parts_in decl.now.kind)) }
+        made_for objects.old.items ++ numbered (part_at number decl.now) 0 (part_count decl.now.kind)) }
     ensures stand { OnOk result (Each (λ object. SharedStands object.1 []) objects.new.items) }
 {
-    for part in 0..parts_in(decl.kind) {
+    for part in 0..part_count(decl.kind) {
         let map = MapId(number);
         let object = SharedPart::new(alloc, map, decl.try_copy(alloc)?)?;
         objects.push((ObjectId::Shared { map, part }, object))?;

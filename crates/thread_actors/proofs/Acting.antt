@@ -6,11 +6,11 @@ use Rattle.bt_core.specs.Ports.{Setting}
 use Rattle.actor_plan.specs.Plans.{Plan}
 use Rattle.actor_plan.specs.Ready.{IsReady}
 use Rattle.cpu_worker.specs.declared.world.SharedWorld.{SharedWorld}
-use Rattle.cpu_worker.specs.Worlds.{setting_in, CanReplay, IsPlanIn}
+use Rattle.cpu_worker.specs.Worlds.{setting_in, IsReplayable, IsPlanIn}
 use Rattle.cpu_worker.proofs.WorldLemmas.{ready}
 
 -- the same of a plan and of a setting that are these
-pub ready_as : (world : SharedWorld) (actor : ℕ) (plan same : Plan) (setting : Setting) → CanReplay world → IsPlanIn world actor plan → same ≡ plan → setting ≡ setting_in world actor
+pub ready_as : (world : SharedWorld) (actor : ℕ) (plan same : Plan) (setting : Setting) → IsReplayable world → IsPlanIn world actor plan → same ≡ plan → setting ≡ setting_in world actor
     → IsReady same world.recording.now world.attached.now setting
 ready_as world actor plan same setting can is p s =
     subst (λ (z : Plan × Setting). IsReady z.0 world.recording.now world.attached.now z.1) (λ i. (sym p i, sym s i)) (ready world actor plan can is)

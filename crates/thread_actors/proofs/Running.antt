@@ -23,8 +23,8 @@ use Rattle.cpu_worker.specs.declared.world.SharedWorld.{SharedWorld}
 use Rattle.cpu_worker.specs.declared.world.WorkerTurns.{WorkerTurns}
 use Rattle.cpu_worker.specs.Chains.{clock_after, Climbs, IsBy, HasWalked}
 use Rattle.thread_actors.specs.Ran.{HasRun}
-use Rattle.cpu_worker.specs.Workers.{program_in, IsReady}
-use Rattle.cpu_worker.specs.Worlds.{world_cpus, sets_in, setting_in, AreTurnsOf, CanReplay, IsPlanIn}
+use Rattle.cpu_worker.specs.Workers.{program_in, IsReadyWorker}
+use Rattle.cpu_worker.specs.Worlds.{world_cpus, sets_in, setting_in, AreTurnsOf, IsReplayable, IsPlanIn}
 use Rattle.thread_actors.specs.Plans.{HavePlans}
 use Rattle.thread_actors.specs.declared.tasks.Gathered.{Gathered}
 use Rattle.thread_actors.specs.Acts.{replay_in, ArePlansIn, CanMake, HaveRun, HaveGone}
@@ -58,9 +58,9 @@ some_and P (Some x) h = refl
 
 -- workers that can run, in a list that is the same
 pub ready_in : {B G : Type 0} (plan : B → Plan) (world : SharedWorld) (tasks same : List (Task B G)) → same ≡ tasks
-    → ((i : ℕ) (d : Task B G) → i < length tasks → IsReady plan world (get_or tasks i d).worker)
-    → (i : ℕ) (d : Task B G) → i < length same → IsReady plan world (get_or same i d).worker
-ready_in {B} {G} plan world tasks same e h = subst (λ (l : List (Task B G)). (i : ℕ) (d : Task B G) → i < length l → IsReady plan world (get_or l i d).worker) (sym e) h
+    → ((i : ℕ) (d : Task B G) → i < length tasks → IsReadyWorker plan world (get_or tasks i d).worker)
+    → (i : ℕ) (d : Task B G) → i < length same → IsReadyWorker plan world (get_or same i d).worker
+ready_in {B} {G} plan world tasks same e h = subst (λ (l : List (Task B G)). (i : ℕ) (d : Task B G) → i < length l → IsReadyWorker plan world (get_or l i d).worker) (sym e) h
 
 -- workers that ran have kept how that ended
 pub all_ended : {B G : Type 0} (plan : B → Plan) (world : SharedWorld) (olds news : List (Task B G)) → length news ≡ length olds
@@ -90,9 +90,9 @@ module _ (world : SharedWorld) (clock : ℕ) (plans : ℕ → Plan) where
 
 module _ {B G : Type 0} (plan : B → Plan) (world : SharedWorld) (clock : ℕ) where
   -- each worker can run
-  pub all_ready : (k : ℕ) (tasks : List (Task B G)) → CanReplay world → Each (IsFresh clock) tasks → AreTurnsFrom (sets_in world) k (map turns_in tasks) → k + length tasks ≡ world_cpus world
+  pub all_ready : (k : ℕ) (tasks : List (Task B G)) → IsReplayable world → Each (IsFresh clock) tasks → AreTurnsFrom (sets_in world) k (map turns_in tasks) → k + length tasks ≡ world_cpus world
       → ((i : ℕ) (d : Task B G) → i < length tasks → IsPlanIn world (k + i) (plan (get_or tasks i d).worker.bodies))
-      → (i : ℕ) (d : Task B G) → i < length tasks → IsReady plan world (get_or tasks i d).worker
+      → (i : ℕ) (d : Task B G) → i < length tasks → IsReadyWorker plan world (get_or tasks i d).worker
   all_ready k [] replay fresh turns many plans i d lt = absurd (omega (arith, lt))
   all_ready k (t ∷ ts) replay fresh turns many plans zero d lt =
       let cpu : t.worker.cpu ≡ k = fresh.0.cpu ∙ turns.0.by.tables in record {
@@ -156,7 +156,7 @@ module _ {B G : Type 0} (plan : B → Plan) (world : SharedWorld) (clock : ℕ) 
   body_at : (i : ℕ) (d : Task B G) → i < length olds → get_or bodies i d.worker.bodies ≡ (get_or olds i d).worker.bodies
   body_at i d lt = ap (λ l. get_or l i d.worker.bodies) (sym bodies_are) ∙ get_mapped bodies_in olds i d d.worker.bodies lt
 
-  pub tasks_ready : CanReplay world → ArePlansIn plan world bodies → length bodies ≡ world_cpus world → (i : ℕ) (d : Task B G) → i < length olds → IsReady plan world (get_or olds i d).worker
+  pub tasks_ready : IsReplayable world → ArePlansIn plan world bodies → length bodies ≡ world_cpus world → (i : ℕ) (d : Task B G) → i < length olds → IsReadyWorker plan world (get_or olds i d).worker
   tasks_ready replay plans many i d lt = all_ready plan world clock 0 olds replay fresh turns_from (let e = tasks_long in omega (arith, e, many))
       (λ j e q. subst (λ a. IsPlanIn world a (plan (get_or olds j e).worker.bodies)) (let z : j ≡ 0 + j = omega arith in z)
       (subst (λ b. IsPlanIn world j (plan b)) (body_at j e q) (plans j e.worker.bodies (let l = tasks_long in omega (arith, l, q))))) i d lt

@@ -5,7 +5,7 @@ ghost use Rattle.turn_lock.specs.History.{Each};
 ghost use Rattle.actor_plan.specs.Plans.{Plan};
 ghost use Rattle.thread_actors.specs.Plans.{HavePlans};
 ghost use Rattle.stamped.specs.Traces.{actor_of};
-ghost use Rattle.cpu_worker.specs.Worlds.{world_cpus, sets_in, AreTurnsOf, CanReplay, IsPlanIn};
+ghost use Rattle.cpu_worker.specs.Worlds.{world_cpus, sets_in, AreTurnsOf, IsReplayable, IsPlanIn};
 ghost use Rattle.thread_actors.specs.Acts.{ArePlansIn, replay_in, HaveGone, AreDone, IsFirst, IsWithMain, HasEndedAll};
 ghost use Rattle.thread_actors.specs.Turns.{AreTurnsFrom, AreUnused};
 
@@ -31,7 +31,7 @@ fn run_cpus<B: Bodies + Drop + Send, G: Gate + Sync, R: Threads + Wait + Sync>(
     turns: Vec<WorkerTurns>,
     clock: u64,
 ) -> Result<Gathered, Memory>
-    requires replay { CanReplay world.now }
+    requires replay { IsReplayable world.now }
     requires some { 0 < world_cpus world.now }
     requires cpus { length bodies.items ≡ world_cpus world.now }
     requires plans { ArePlansIn B.plan world.now bodies.items }
@@ -53,7 +53,7 @@ fn main_actor<B: Bodies + Drop>(
     bodies: &mut Vec<B>,
     turns: &mut Vec<WorkerTurns>,
 ) -> MainActor<B>
-    requires replay { CanReplay world.now }
+    requires replay { IsReplayable world.now }
     requires actors { length bodies.old.items ≡ world_cpus world.now + 1 }
     requires many { length turns.old.items ≡ world_cpus world.now + 1 }
     ensures bodies { bodies.new.items ≡ remove bodies.old.items (world_cpus world.now) }
@@ -107,7 +107,7 @@ fn end_all<B: Bodies + Drop, G: Gate, R: Wait>(
     begun: u64,
     mut all: Gathered,
 ) -> Result<Gathered, Memory>
-    requires replay { CanReplay world.now }
+    requires replay { IsReplayable world.now }
     requires turns { AreTurnsOf (sets_in world.now) (actor_of main.trace) main.turns }
     requires plan { IsPlanIn world.now (actor_of main.trace) (B.plan main.bodies) }
     ensures { IfOk result (λ left. HasEndedAll B.plan world.now main begun all left) }
@@ -127,7 +127,7 @@ pub fn run_actors<B: Bodies + Drop + Send, G: Gate + Sync, R: Threads + Wait + S
     mut bodies: Vec<B>,
     mut turns: Vec<WorkerTurns>,
 ) -> Result<Gathered, Memory>
-    requires replay { CanReplay world.now }
+    requires replay { IsReplayable world.now }
     requires some { 0 < world_cpus world.now }
     requires actors { length bodies.items ≡ world_cpus world.now + 1 }
     requires plans { ArePlansIn B.plan world.now bodies.items }

@@ -1,7 +1,7 @@
 // The main actor, which runs BEGIN before all CPUs and END after them.
 ghost use Rattle.std.specs.Prelude.{◌≡◌, IfOk};
 ghost use Rattle.actor_plan.specs.Programs.{begin_program, end_program};
-ghost use Rattle.cpu_worker.specs.Worlds.{sets_in, CanReplay, AreTurnsOf, IsPlanIn};
+ghost use Rattle.cpu_worker.specs.Worlds.{sets_in, IsReplayable, AreTurnsOf, IsPlanIn};
 ghost use Rattle.stamped.specs.Traces.{actor_of};
 ghost use Rattle.thread_actors.specs.Acts.{HasDone};
 
@@ -58,7 +58,7 @@ pub(crate) fn begin<B: Bodies + Drop, G: Gate, R: Wait>(
     gate: &G,
     main: MainActor<B>,
 ) -> Result<(MainActor<B>, u64), Memory>
-    requires replay { CanReplay world.now }
+    requires replay { IsReplayable world.now }
     requires turns { AreTurnsOf (sets_in world.now) (actor_of main.trace) main.turns }
     requires plan { IsPlanIn world.now (actor_of main.trace) (B.plan main.bodies) }
     ensures { IfOk result (λ r. HasDone B.plan world.now
@@ -90,7 +90,7 @@ pub(crate) fn end<B: Bodies + Drop, G: Gate, R: Wait>(
     gate: &G,
     main: MainActor<B>,
 ) -> Result<(MainActor<B>, u64), Memory>
-    requires replay { CanReplay world.now }
+    requires replay { IsReplayable world.now }
     requires turns { AreTurnsOf (sets_in world.now) (actor_of main.trace) main.turns }
     requires plan { IsPlanIn world.now (actor_of main.trace) (B.plan main.bodies) }
     ensures { IfOk result (λ r. HasDone B.plan world.now

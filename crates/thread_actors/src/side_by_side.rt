@@ -1,6 +1,6 @@
 // Workers side by side, each on a thread of its own.
 ghost use Rattle.std.specs.Prelude.{◌≡◌, ℕ, ◌<◌, length, slice_index_or};
-ghost use Rattle.cpu_worker.specs.Workers.{IsReady};
+ghost use Rattle.cpu_worker.specs.Workers.{IsReadyWorker};
 ghost use Rattle.thread_actors.specs.Ran.{HasRun};
 ghost use Rattle.thread_actors.specs.declared.side_by_side.Task.{Task};
 
@@ -32,7 +32,7 @@ struct Common<'a, R> {
 
 /// Runs a worker, and keeps how that ended.
 fn run_one<B: Bodies, G: Gate, R: Wait>(common: &Common<R>, task: &mut Task<B, G>)
-    requires { IsReady B.plan common.now.world.now task.old.worker }
+    requires { IsReadyWorker B.plan common.now.world.now task.old.worker }
     ensures { HasRun B.plan common.now.world.now task.old task.new }
 {
     task.ended = Some(task.worker.run(common.rt, common.alloc, common.world));
@@ -46,7 +46,7 @@ fn run_each<B: Bodies + Send, G: Gate + Sync, R: Threads + Wait + Sync>(
     tasks: &mut [Task<B, G>],
 )
     requires some { 0 < length tasks.old }
-    requires ready { (i : ℕ) (d : Task B G) → i < length tasks.old → IsReady B.plan world.now (slice_index_or tasks.old i d).worker }
+    requires ready { (i : ℕ) (d : Task B G) → i < length tasks.old → IsReadyWorker B.plan world.now (slice_index_or tasks.old i d).worker }
     ensures { (i : ℕ) (d : Task B G) → i < length tasks.old → HasRun B.plan world.now (slice_index_or tasks.old i d) (slice_index_or tasks.new i d) }
 {
     let threads = tasks.len();
@@ -65,7 +65,7 @@ pub(crate) fn run_all<B: Bodies + Send, G: Gate + Sync, R: Threads + Wait + Sync
 )
     requires some { 0 < length tasks.old.items }
     requires ready { (i : ℕ) (d : Task B G) → i < length tasks.old.items →
-        IsReady B.plan world.now (slice_index_or tasks.old.items i d).worker }
+        IsReadyWorker B.plan world.now (slice_index_or tasks.old.items i d).worker }
     ensures same { length tasks.new.items ≡ length tasks.old.items }
     ensures ran { (i : ℕ) (d : Task B G) → i < length tasks.old.items →
         HasRun B.plan world.now (slice_index_or tasks.old.items i d) (slice_index_or tasks.new.items i d) }

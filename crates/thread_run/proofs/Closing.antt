@@ -16,7 +16,7 @@ use Rattle.step_objects.specs.declared.shared.PartKind.{PartKind}
 use Rattle.step_objects.specs.declared.shared.SharedPart.{SharedPart}
 use Rattle.step_objects.specs.CpuTables.{map_at}
 use Rattle.step_objects.specs.Objects.{shared_kind, SharedStands, cpu_kind, CpuStands}
-use Rattle.map_ops.specs.Parts.{parts_in}
+use Rattle.map_ops.specs.Parts.{part_count}
 use Rattle.shared_maps.specs.Parts.{part_at, parts_from}
 use Rattle.run_ends.specs.Closed.{AllStand}
 use Rattle.run_objects.specs.Worlds.{World}
@@ -74,7 +74,7 @@ module _ {O Kind : Type 0} (kind_of : O → Kind) (stands_for : O → List Op �
 
 module _ (steps : List Step) (m : ℕ) (decl : MapDecl) (rest : List MapDecl) (cs : List (SharedPart × List Entry)) (h : PartsStand steps (parts_from m (decl ∷ rest)) cs) where
   abbrev count : ℕ
-  count = parts_in decl.kind
+  count = part_count decl.kind
 
   abbrev ids : List ObjectId
   ids = map part_id (numbered (part_at m decl) 0 count)
@@ -115,7 +115,7 @@ module _ (steps : List Step) (m : ℕ) (decl : MapDecl) (rest : List MapDecl) (c
 
   first_parts : (w : World) → slice_get w.maps m ≡ Some decl → AreParts w steps m (take count (map object_of cs))
   first_parts w there = subst (AreParts w steps m) (sym (take-map object_of count cs)) (record {
-    count = λ one found. length-map (take count cs) object_of ∙ own_long ∙ sym (ap (λ (d : MapDecl). parts_in d.kind) (same_decl one decl (slice_get w.maps m) found there));
+    count = λ one found. length-map (take count cs) object_of ∙ own_long ∙ sym (ap (λ (d : MapDecl). part_count d.kind) (same_decl one decl (slice_get w.maps m) found there));
     each = from_first shared_kind SharedStands steps (IsPartOf w.maps m) (Shared (map_at m)) of count (take count cs) (record { number = refl; declared = there }) own;
   })
 
@@ -125,17 +125,17 @@ each_map : (w : World) (steps : List Step) (m : ℕ) (decls : List MapDecl) (cs 
     → (k : ℕ) (d : List SharedPart) → k < length decls → AreParts w steps (m + k) (get_or (parts_by decls (map object_of cs)) k d)
 each_map w steps m [] cs there h k d lt = absurd (omega (arith, lt))
 each_map w steps m (decl ∷ decls) cs there h zero d lt =
-    subst (λ n. AreParts w steps n (take (parts_in decl.kind) (map object_of cs))) (let e : m ≡ m + 0 = omega arith in e)
+    subst (λ n. AreParts w steps n (take (part_count decl.kind) (map object_of cs))) (let e : m ≡ m + 0 = omega arith in e)
     (first_parts steps m decl decls cs h w (ap (slice_get w.maps) (let e : m ≡ m + 0 = omega arith in e) ∙ there 0 decl refl))
 each_map w steps m (decl ∷ decls) cs there h (suc k) d lt =
-    subst (λ n. AreParts w steps n (get_or (parts_by decls (drop (parts_in decl.kind) (map object_of cs))) k d)) (let e : m + 1 + k ≡ m + suc k = omega arith in e)
-    (subst (λ (l : List SharedPart). AreParts w steps (m + 1 + k) (get_or (parts_by decls l) k d)) (sym (drop-map object_of (parts_in decl.kind) cs))
-    (each_map w steps (m + 1) decls (drop (parts_in decl.kind) cs) (λ n one e. ap (slice_get w.maps) (let q : m + 1 + n ≡ m + suc n = omega arith in q) ∙ there (suc n) one e)
+    subst (λ n. AreParts w steps n (get_or (parts_by decls (drop (part_count decl.kind) (map object_of cs))) k d)) (let e : m + 1 + k ≡ m + suc k = omega arith in e)
+    (subst (λ (l : List SharedPart). AreParts w steps (m + 1 + k) (get_or (parts_by decls l) k d)) (sym (drop-map object_of (part_count decl.kind) cs))
+    (each_map w steps (m + 1) decls (drop (part_count decl.kind) cs) (λ n one e. ap (slice_get w.maps) (let q : m + 1 + n ≡ m + suc n = omega arith in q) ∙ there (suc n) one e)
     (others_stand steps m decl decls cs h) k d (omega (arith, lt))))
 
 by_long : (decls : List MapDecl) (parts : List SharedPart) → length (parts_by decls parts) ≡ length decls
 by_long [] parts = refl
-by_long (decl ∷ decls) parts = ap suc (by_long decls (drop (parts_in decl.kind) parts))
+by_long (decl ∷ decls) parts = ap suc (by_long decls (drop (part_count decl.kind) parts))
 
 -- ---- all objects
 
@@ -173,10 +173,10 @@ module _ (all : List SharedPart) (n : ℕ) where
       (is ∙ take_all n all le ∙ sym (take_all (n + 1) all (omega (arith, le))), there ∙ drop_all n all le ∙ sym (drop_all (n + 1) all (omega (arith, le))))
 
 -- the parts of one map more
-pub map_more : (maps : List MapDecl) (n : ℕ) (decl : MapDecl) (left rest : List SharedPart) → n < length maps → decl ≡ get_or maps n decl → rest ≡ drop (parts_in decl.kind) left
-    → parts_by (drop n maps) left ≡ take (parts_in decl.kind) left ∷ parts_by (drop (n + 1) maps) rest
+pub map_more : (maps : List MapDecl) (n : ℕ) (decl : MapDecl) (left rest : List SharedPart) → n < length maps → decl ≡ get_or maps n decl → rest ≡ drop (part_count decl.kind) left
+    → parts_by (drop n maps) left ≡ take (part_count decl.kind) left ∷ parts_by (drop (n + 1) maps) rest
 map_more maps n decl left rest lt is there =
-    ap (λ ds. parts_by ds left) (drop_more maps n decl lt ∙ ap (λ d. d ∷ drop (n + 1) maps) (sym is)) ∙ ap (λ l. take (parts_in decl.kind) left ∷ parts_by (drop (n + 1) maps) l) (sym there)
+    ap (λ ds. parts_by ds left) (drop_more maps n decl lt ∙ ap (λ d. d ∷ drop (n + 1) maps) (sym is)) ∙ ap (λ l. take (part_count decl.kind) left ∷ parts_by (drop (n + 1) maps) l) (sym there)
 
 -- no map is left
 pub none_left : (maps : List MapDecl) (n : ℕ) (left : List SharedPart) → length maps ≤ n → 0 ≡ length (parts_by (drop n maps) left)

@@ -30,7 +30,7 @@ use Rattle.step_objects.specs.declared.shared.SharedPart.{SharedPart}
 use Rattle.step_objects.specs.Clocks.{clock_kind, ClockStands}
 use Rattle.step_objects.specs.CpuTables.{map_at}
 use Rattle.step_objects.specs.Objects.{shared_kind, SharedStands, cpu_kind, CpuStands}
-use Rattle.map_ops.specs.Parts.{parts_in}
+use Rattle.map_ops.specs.Parts.{part_count}
 use Rattle.map_ops.proofs.PartLaws.{shared_has_part}
 use Rattle.shared_maps.specs.Parts.{part_at, parts_from}
 use Rattle.side_locks.specs.Steps.{own_of_clock, reply_of_clock, own_of_out, reply_of_out}
@@ -71,30 +71,30 @@ some_is : (P : MapDecl → Type 0) (o : Option MapDecl) → IsSomeAnd o P → (d
 some_is P None h = absurd h
 some_is P (Some d) h = (d, refl, h)
 
-pub ids_map : (m : ℕ) (d : MapDecl) (ds : List MapDecl) → map part_id (parts_from m (d ∷ ds)) ≡ map part_id (numbered (part_at m d) 0 (parts_in d.kind)) ++ map part_id (parts_from (m + 1) ds)
-ids_map m d ds = map-append part_id (numbered (part_at m d) 0 (parts_in d.kind)) (parts_from (m + 1) ds)
+pub ids_map : (m : ℕ) (d : MapDecl) (ds : List MapDecl) → map part_id (parts_from m (d ∷ ds)) ≡ map part_id (numbered (part_at m d) 0 (part_count d.kind)) ++ map part_id (parts_from (m + 1) ds)
+ids_map m d ds = map-append part_id (numbered (part_at m d) 0 (part_count d.kind)) (parts_from (m + 1) ds)
 
-pub kinds_map : (m : ℕ) (d : MapDecl) (ds : List MapDecl) → map part_kind (parts_from m (d ∷ ds)) ≡ map part_kind (numbered (part_at m d) 0 (parts_in d.kind)) ++ map part_kind (parts_from (m + 1) ds)
-kinds_map m d ds = map-append part_kind (numbered (part_at m d) 0 (parts_in d.kind)) (parts_from (m + 1) ds)
+pub kinds_map : (m : ℕ) (d : MapDecl) (ds : List MapDecl) → map part_kind (parts_from m (d ∷ ds)) ≡ map part_kind (numbered (part_at m d) 0 (part_count d.kind)) ++ map part_kind (parts_from (m + 1) ds)
+kinds_map m d ds = map-append part_kind (numbered (part_at m d) 0 (part_count d.kind)) (parts_from (m + 1) ds)
 
 get_part : (m : ℕ) (d : MapDecl) (k n p : ℕ) → p < n → slice_get (map part_id (numbered (part_at m d) k n)) p ≡ Some (Shared (map_at m) (k + p))
 get_part m d k zero p lt = absurd (omega (arith, lt))
 get_part m d k (suc n) zero lt = ap (λ q. Some (Shared (map_at m) q)) (let e : k ≡ k + 0 = omega arith in e)
 get_part m d k (suc n) (suc p) lt = get_part m d (k + 1) n p (omega (arith, lt)) ∙ ap (λ q. Some (Shared (map_at m) q)) (let e : k + 1 + p ≡ k + suc p = omega arith in e)
 
-among_parts : (m : ℕ) (ds : List MapDecl) (j p : ℕ) (d : MapDecl) → slice_get ds j ≡ Some d → p < parts_in d.kind → is_among (map part_id (parts_from m ds)) (Shared (map_at (m + j)) p) ≡ true
+among_parts : (m : ℕ) (ds : List MapDecl) (j p : ℕ) (d : MapDecl) → slice_get ds j ≡ Some d → p < part_count d.kind → is_among (map part_id (parts_from m ds)) (Shared (map_at (m + j)) p) ≡ true
 among_parts m [] j p d e lt = absurd (let t : ⊥ = cc in t)
 among_parts m (c ∷ ds) zero p d e lt =
     let same : d ≡ c = cc in
-    let here : slice_get (map part_id (numbered (part_at m c) 0 (parts_in c.kind))) p ≡ Some (Shared (map_at (m + 0)) p) =
-    get_part m c 0 (parts_in c.kind) p (subst (λ (x : MapDecl). p < parts_in x.kind) same lt)
+    let here : slice_get (map part_id (numbered (part_at m c) 0 (part_count c.kind))) p ≡ Some (Shared (map_at (m + 0)) p) =
+    get_part m c 0 (part_count c.kind) p (subst (λ (x : MapDecl). p < part_count x.kind) same lt)
     ∙ (λ i. Some (Shared (map_at ((let q : m ≡ m + 0 = omega arith in q) i)) ((let q : 0 + p ≡ p = omega arith in q) i))) in
     ap (λ l. is_among l (Shared (map_at (m + 0)) p)) (ids_map m c ds)
-    ∙ among_left (map part_id (numbered (part_at m c) 0 (parts_in c.kind))) (map part_id (parts_from (m + 1) ds)) (Shared (map_at (m + 0)) p)
-    (among_get (map part_id (numbered (part_at m c) 0 (parts_in c.kind))) p (Shared (map_at (m + 0)) p) here)
+    ∙ among_left (map part_id (numbered (part_at m c) 0 (part_count c.kind))) (map part_id (parts_from (m + 1) ds)) (Shared (map_at (m + 0)) p)
+    (among_get (map part_id (numbered (part_at m c) 0 (part_count c.kind))) p (Shared (map_at (m + 0)) p) here)
 among_parts m (c ∷ ds) (suc j) p d e lt =
     ap (λ l. is_among l (Shared (map_at (m + suc j)) p)) (ids_map m c ds)
-    ∙ among_right (map part_id (numbered (part_at m c) 0 (parts_in c.kind))) (map part_id (parts_from (m + 1) ds)) (Shared (map_at (m + suc j)) p)
+    ∙ among_right (map part_id (numbered (part_at m c) 0 (part_count c.kind))) (map part_id (parts_from (m + 1) ds)) (Shared (map_at (m + suc j)) p)
     (ap (λ k. is_among (map part_id (parts_from (m + 1) ds)) (Shared (map_at k) p)) (let q : m + suc j ≡ m + 1 + j = omega arith in q) ∙ among_parts (m + 1) ds j p d e lt)
 
 -- the objects of so many actors and these maps
@@ -145,9 +145,9 @@ module _ (maps : List MapDecl) (cpus : ℕ) where
       → Answer reply_of_part (answer maps cpus) (map part_id (parts_from m ds)) (map part_kind (parts_from m ds))
   part_answers m [] h = tt
   part_answers m (d ∷ ds) h = subst (λ (z : List ObjectId × List PartKind). Answer reply_of_part (answer maps cpus) z.0 z.1) (λ i. (sym (ids_map m d ds) i, sym (kinds_map m d ds) i))
-      (answer_both reply_of_part (answer maps cpus) (map part_id (numbered (part_at m d) 0 (parts_in d.kind))) (map part_id (parts_from (m + 1) ds))
-      (map part_kind (numbered (part_at m d) 0 (parts_in d.kind))) (map part_kind (parts_from (m + 1) ds))
-      (map_answers m d 0 (parts_in d.kind) (ap (slice_get maps) (let q : m ≡ m + 0 = omega arith in q) ∙ h 0 d refl))
+      (answer_both reply_of_part (answer maps cpus) (map part_id (numbered (part_at m d) 0 (part_count d.kind))) (map part_id (parts_from (m + 1) ds))
+      (map part_kind (numbered (part_at m d) 0 (part_count d.kind))) (map part_kind (parts_from (m + 1) ds))
+      (map_answers m d 0 (part_count d.kind) (ap (slice_get maps) (let q : m ≡ m + 0 = omega arith in q) ∙ h 0 d refl))
       (part_answers (m + 1) ds (λ k c e. ap (slice_get maps) (let q : m + 1 + k ≡ m + suc k = omega arith in q) ∙ h (suc k) c e)))
 
   table_answers : (k n : ℕ) → Answer table_answer (answer maps cpus) (numbered Cpu k n) (numbered (λ _. maps) k n)

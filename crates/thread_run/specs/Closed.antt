@@ -10,7 +10,7 @@ use Rattle.step_objects.specs.declared.cpu.CpuTable.{CpuTable}
 use Rattle.step_objects.specs.declared.shared.PartKind.{PartKind}
 use Rattle.step_objects.specs.declared.shared.SharedPart.{SharedPart}
 use Rattle.step_objects.specs.Objects.{shared_kind, SharedStands, cpu_kind, CpuStands}
-use Rattle.map_ops.specs.Parts.{parts_in}
+use Rattle.map_ops.specs.Parts.{part_count}
 use Rattle.shared_maps.specs.Parts.{Part}
 use Rattle.run_ends.specs.Closed.{AllStand}
 
@@ -35,4 +35,4 @@ object_of closed = closed.0
 -- the parts of each of these maps, of a list that has them map by map
 abbrev pub parts_by : List MapDecl → List SharedPart → List (List SharedPart)
 parts_by [] parts = []
-parts_by (decl ∷ decls) parts = take (parts_in decl.kind) parts ∷ parts_by decls (drop (parts_in decl.kind) parts)
+parts_by (decl ∷ decls) parts = take (part_count decl.kind) parts ∷ parts_by decls (drop (part_count decl.kind) parts)

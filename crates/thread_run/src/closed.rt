@@ -2,7 +2,7 @@
 ghost use Rattle.std.specs.Prelude.{◌≡◌, ◌+◌, List, map, take, drop, IfOk, OnOk};
 ghost use Rattle.std.specs.Vec.Iter.{into_iter_items};
 ghost use Rattle.bt_core.specs.declared.step.Step.{Step};
-ghost use Rattle.map_ops.specs.Parts.{parts_in};
+ghost use Rattle.map_ops.specs.Parts.{part_count};
 ghost use Rattle.shared_maps.specs.Parts.{parts_from};
 ghost use Rattle.run_objects.specs.Worlds.{World};
 ghost use Rattle.run_objects.specs.Closed.{part_list, MapsStand};
@@ -10,7 +10,7 @@ ghost use Rattle.thread_run.specs.Closed.{object_of, parts_by, PartsStand, Table
 
 use bt_core::map::{MapDecl, MapKind};
 use bt_core::memory::Memory;
-use map_ops::parts::parts_in;
+use map_ops::parts::part_count;
 use run_objects::closed::Closed;
 use std::alloc::Global;
 use std::vec::IntoIter;
@@ -35,11 +35,11 @@ fn next_parts(
     kind: MapKind,
     left: &mut IntoIter<SharedPart>,
 ) -> Result<Vec<SharedPart>, Memory>
-    ensures parts { IfOk result (λ parts. parts.items ≡ take (parts_in kind) (into_iter_items left.old)) }
-    ensures left { OnOk result (into_iter_items left.new ≡ drop (parts_in kind) (into_iter_items left.old)) }
+    ensures parts { IfOk result (λ parts. parts.items ≡ take (part_count kind) (into_iter_items left.old)) }
+    ensures left { OnOk result (into_iter_items left.new ≡ drop (part_count kind) (into_iter_items left.old)) }
 {
     let mut parts = Vec::new(alloc);
-    for _ in 0..parts_in(kind) {
+    for _ in 0..part_count(kind) {
         match left.next() {
             Some(part) => parts.push(part)?,
             None => {}

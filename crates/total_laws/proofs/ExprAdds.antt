@@ -14,7 +14,7 @@ use Rattle.typed_tree.specs.declared.expr.NumBuiltin.TheVariants as builtins
 use Rattle.typed_tree.specs.declared.expr.NumExpr.{NumExpr, roll-NumExpr, map-NumExpr, fold-roll-NumExpr, ind-NumExpr}
 use Rattle.typed_tree.specs.declared.expr.StrExpr.{StrExpr, roll-StrExpr, map-StrExpr, fold-roll-StrExpr}
 use Rattle.typed_tree.specs.Parts as tree
-use Rattle.typed_tree.specs.Parts.{Part, Made, made_of, num_parts, str_parts, parts_in}
+use Rattle.typed_tree.specs.Parts.{TreePart, Made, made_of, num_parts, str_parts, parts_in}
 use Rattle.bt_meaning.specs.Totals.{Addition, added}
 use Rattle.bt_meaning.proofs.Eachs.{each_front, each_back}
 use Rattle.walk_meaning.specs.declared.flow.Frame.{Frame}
@@ -81,13 +81,13 @@ module _ (m : MapId) (one two : BodyScene) (like : AreLike one two) where
 
   -- ---- expressions
 
-  abbrev Calm : List Part → Type 0
+  abbrev Calm : List TreePart → Type 0
   Calm parts = AreQuiet one two parts
 
-  pub front : (a b : List Part) → Calm (a ++ b) → Calm a
+  pub front : (a b : List TreePart) → Calm (a ++ b) → Calm a
   front a b h = each_front (IsQuiet one two) a b h
 
-  pub back : (a b : List Part) → Calm (a ++ b) → Calm b
+  pub back : (a b : List TreePart) → Calm (a ++ b) → Calm b
   back a b h = each_back (IsQuiet one two) a b h
 
   same_builtin : (b : NumBuiltin) → IsQuietBuiltin one two b → builtin_value b one.context ≡ builtin_value b two.context
@@ -116,7 +116,7 @@ module _ (m : MapId) (one two : BodyScene) (like : AreLike one two) where
   num_of h = map-NumExpr ManyAny ManyNum ManyStr AnyExpr NumExpr StrExpr (λ k. k.0) (λ k. k.0) (λ k. k.0) h
 
   num_case : (h : NumExpr-F ManyAny ManyNum ManyStr)
-      → Calm (tree.num_layer (map-NumExpr AnyExpr NumExpr StrExpr Made (List Part) (List Part) made_of num_parts str_parts (num_of h)))
+      → Calm (tree.num_layer (map-NumExpr AnyExpr NumExpr StrExpr Made (List TreePart) (List TreePart) made_of num_parts str_parts (num_of h)))
       → Sure (number_by_parts (map-NumExpr AnyExpr NumExpr StrExpr (Does Value) (Does ℤ) (Does (List ℕ)) value_does number_does text_does (num_of h)))
   num_case (NumExpr-F.Number n) q = given-sure n
   num_case (NumExpr-F.Builtin b) q = looked_at-sure _ (λ frame. same_builtin b q.0)
@@ -146,7 +146,7 @@ module _ (m : MapId) (one two : BodyScene) (like : AreLike one two) where
   str_of h = map-StrExpr ManyAny ManyNum ManyStr AnyExpr NumExpr StrExpr (λ k. k.0) (λ k. k.0) (λ k. k.0) h
 
   str_case : (h : StrExpr-F ManyAny ManyNum ManyStr)
-      → Calm (tree.str_layer (map-StrExpr AnyExpr NumExpr StrExpr Made (List Part) (List Part) made_of num_parts str_parts (str_of h)))
+      → Calm (tree.str_layer (map-StrExpr AnyExpr NumExpr StrExpr Made (List TreePart) (List TreePart) made_of num_parts str_parts (str_of h)))
       → Sure (text_by_parts (map-StrExpr AnyExpr NumExpr StrExpr (Does Value) (Does ℤ) (Does (List ℕ)) value_does number_does text_does (str_of h)))
   str_case (StrExpr-F.Text s) q = given-sure s
   str_case StrExpr-F.Comm q = looked_at-sure _ (λ frame. like.comm)
@@ -162,7 +162,7 @@ module _ (m : MapId) (one two : BodyScene) (like : AreLike one two) where
   any_of h = map-AnyExpr ManyAny ManyNum ManyStr AnyExpr NumExpr StrExpr (λ k. k.0) (λ k. k.0) (λ k. k.0) h
 
   any_case : (h : AnyExpr-F ManyAny ManyNum ManyStr)
-      → Calm (tree.any_layer (map-AnyExpr AnyExpr NumExpr StrExpr Made (List Part) (List Part) made_of num_parts str_parts (any_of h))).parts
+      → Calm (tree.any_layer (map-AnyExpr AnyExpr NumExpr StrExpr Made (List TreePart) (List TreePart) made_of num_parts str_parts (any_of h))).parts
       → Sure (value_by_parts (map-AnyExpr AnyExpr NumExpr StrExpr (Does Value) (Does ℤ) (Does (List ℕ)) value_does number_does text_does (any_of h)))
   any_case (AnyExpr-F.Num d) q = then-given (number_does d.0) _ (d.1 q)
   any_case (AnyExpr-F.Str d) q = then-given (text_does d.0) _ (d.1 q)
@@ -170,17 +170,17 @@ module _ (m : MapId) (one two : BodyScene) (like : AreLike one two) where
   num_step : (x : NumExpr-F AnyExpr NumExpr StrExpr) (h : NumExpr-F ManyAny ManyNum ManyStr) → num_of h ≡ x → NumSure (roll-NumExpr x)
   num_step x h e = subst (λ (y : NumExpr-F AnyExpr NumExpr StrExpr). NumSure (roll-NumExpr y)) e (λ q.
       subst (λ (d : Does ℤ). Sure d) (sym (fold-roll-NumExpr (Does Value) (Does ℤ) (Does (List ℕ)) value_by_parts number_by_parts text_by_parts (num_of h)))
-      (num_case h (subst (λ (l : List Part). Calm l) (fold-roll-NumExpr Made (List Part) (List Part) tree.any_layer tree.num_layer tree.str_layer (num_of h)) q)))
+      (num_case h (subst (λ (l : List TreePart). Calm l) (fold-roll-NumExpr Made (List TreePart) (List TreePart) tree.any_layer tree.num_layer tree.str_layer (num_of h)) q)))
 
   str_step : (x : StrExpr-F AnyExpr NumExpr StrExpr) (h : StrExpr-F ManyAny ManyNum ManyStr) → str_of h ≡ x → StrSure (roll-StrExpr x)
   str_step x h e = subst (λ (y : StrExpr-F AnyExpr NumExpr StrExpr). StrSure (roll-StrExpr y)) e (λ q.
       subst (λ (d : Does (List ℕ)). Sure d) (sym (fold-roll-StrExpr (Does Value) (Does ℤ) (Does (List ℕ)) value_by_parts number_by_parts text_by_parts (str_of h)))
-      (str_case h (subst (λ (l : List Part). Calm l) (fold-roll-StrExpr Made (List Part) (List Part) tree.any_layer tree.num_layer tree.str_layer (str_of h)) q)))
+      (str_case h (subst (λ (l : List TreePart). Calm l) (fold-roll-StrExpr Made (List TreePart) (List TreePart) tree.any_layer tree.num_layer tree.str_layer (str_of h)) q)))
 
   any_step : (x : AnyExpr-F AnyExpr NumExpr StrExpr) (h : AnyExpr-F ManyAny ManyNum ManyStr) → any_of h ≡ x → AnySure (roll-AnyExpr x)
   any_step x h e = subst (λ (y : AnyExpr-F AnyExpr NumExpr StrExpr). AnySure (roll-AnyExpr y)) e (λ q.
       subst (λ (d : Does Value). Sure d) (sym (fold-roll-AnyExpr (Does Value) (Does ℤ) (Does (List ℕ)) value_by_parts number_by_parts text_by_parts (any_of h)))
-      (any_case h (subst (λ (w : Made). Calm w.parts) (fold-roll-AnyExpr Made (List Part) (List Part) tree.any_layer tree.num_layer tree.str_layer (any_of h)) q)))
+      (any_case h (subst (λ (w : Made). Calm w.parts) (fold-roll-AnyExpr Made (List TreePart) (List TreePart) tree.any_layer tree.num_layer tree.str_layer (any_of h)) q)))
 
   pub num_sure : (e : NumExpr) → NumSure e
   num_sure e = ind-NumExpr AnySure NumSure StrSure any_step num_step str_step e

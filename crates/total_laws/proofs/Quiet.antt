@@ -3,7 +3,7 @@ use Rattle.std.specs.Prelude.{◌≡◌, List}
 use Rattle.std.specs.List.{AllByRecursion}
 use Rattle.typed_tree.specs.declared.expr.NumBuiltin.{NumBuiltin}
 use Rattle.typed_tree.specs.declared.expr.NumBuiltin.TheVariants as builtins
-use Rattle.typed_tree.specs.Parts.{Part, Numeric, MapOf, AggOf, Deleted, Cleared, Zeroed, Jumped}
+use Rattle.typed_tree.specs.Parts.{TreePart, Numeric, MapOf, AggOf, Deleted, Cleared, Zeroed, Jumped}
 use Rattle.bt_meaning.specs.Totals.{StaysInBody}
 use Rattle.walk_meaning.specs.Does.{BodyScene}
 
@@ -25,7 +25,7 @@ IsQuietBuiltin one two builtins.Cpu = one.context.cpu ≡ two.context.cpu
 IsQuietBuiltin one two builtin = Unit {0}
 
 -- the part reads and changes no map but by an aggregation or `print`, stays in the body, and reads the same in both scenes
-abbrev pub IsQuiet : BodyScene → BodyScene → Part → Type 0
+abbrev pub IsQuiet : BodyScene → BodyScene → TreePart → Type 0
 IsQuiet one two (Numeric builtin) = IsQuietBuiltin one two builtin
 IsQuiet one two (MapOf number keys shape) = ⊥
 IsQuiet one two (AggOf number keys) = ⊥
@@ -35,5 +35,5 @@ IsQuiet one two (Zeroed number) = ⊥
 IsQuiet one two (Jumped jump inside) = StaysInBody jump
 IsQuiet one two part = Unit {0}
 
-abbrev pub AreQuiet : BodyScene → BodyScene → List Part → Type 0
+abbrev pub AreQuiet : BodyScene → BodyScene → List TreePart → Type 0
 AreQuiet one two parts = AllByRecursion (IsQuiet one two) parts

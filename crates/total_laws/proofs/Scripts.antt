@@ -19,7 +19,7 @@ use Rattle.typed_tree.specs.declared.expr.NumBuiltin.{NumBuiltin}
 use Rattle.typed_tree.specs.declared.expr.NumBuiltin.TheVariants as builtins
 use Rattle.typed_tree.specs.declared.script.Typed.{Typed}
 use Rattle.typed_tree.specs.Bodies.{scope_of, tree_parts}
-use Rattle.typed_tree.specs.Parts.{Part, Numeric, MapOf, AggOf, Deleted, Cleared, Zeroed, Jumped}
+use Rattle.typed_tree.specs.Parts.{TreePart, Numeric, MapOf, AggOf, Deleted, Cleared, Zeroed, Jumped}
 use Rattle.typed_tree.specs.Scope.{Scope, all_fit, fits, decl_of, is_agg, is_declared, is_shared, kind_of_shape, same_kind, same_shapes}
 use Rattle.walk_meaning.proofs.Declared.{served}
 use Rattle.walk_meaning.specs.Walk.{walk}
@@ -62,7 +62,7 @@ none_shared (Some decl) g keys e =
 
 module _ (one two : BodyScene) (scope : Scope) (gathers : (number : ℕ) → Gathers (decl_of number scope.maps)) where
   -- both see one `cpu`, or the part is not `cpu`
-  abbrev pub SeesCpu : Part → Type 0
+  abbrev pub SeesCpu : TreePart → Type 0
   SeesCpu p = (one.context.cpu ≡ two.context.cpu) ⊎ UsesNoCpu p
 
   quiet_builtin : (b : NumBuiltin) → SeesCpu (Numeric b) → IsQuietBuiltin one two b
@@ -70,7 +70,7 @@ module _ (one two : BodyScene) (scope : Scope) (gathers : (number : ℕ) → Gat
   quiet_builtin builtins.Cpu (inr none) = absurd none
   quiet_builtin b h = tt
 
-  quiet_part : (p : Part) → fits scope p ≡ true → Keeps p → SeesCpu p → IsQuiet one two p
+  quiet_part : (p : TreePart) → fits scope p ≡ true → Keeps p → SeesCpu p → IsQuiet one two p
   quiet_part (Numeric b) f k h = quiet_builtin b h
   quiet_part (MapOf number keys shape) f k h = none_declared (decl_of number scope.maps) (gathers number) shape keys f
   quiet_part (AggOf number keys) f k h = k
@@ -80,7 +80,7 @@ module _ (one two : BodyScene) (scope : Scope) (gathers : (number : ℕ) → Gat
   quiet_part (Jumped jump inside) f k h = k
   quiet_part p f k h = tt
 
-  pub quiet_parts : (ps : List Part) → all_fit scope ps ≡ true → AllByRecursion Keeps ps → AllByRecursion SeesCpu ps → AreQuiet one two ps
+  pub quiet_parts : (ps : List TreePart) → all_fit scope ps ≡ true → AllByRecursion Keeps ps → AllByRecursion SeesCpu ps → AreQuiet one two ps
   quiet_parts [] f k h = tt
   quiet_parts (p ∷ ps) f k h = let two_parts = and_parts (fits scope p) (all_fit scope ps) f in
       (quiet_part p two_parts.0 k.0 h.0, quiet_parts ps two_parts.1 k.1 h.1)
@@ -123,12 +123,12 @@ module _ (script : Typed) (only : IsAggregationOnly script) (m : MapId) (one two
   seen_in : (body : TypedBody) → CpuIsFine body → AllByRecursion (λ p. (one.cpu ≡ two.cpu) ⊎ UsesNoCpu p) (tree_parts body.tree)
   seen_in body (inl e) = each_left (tree_parts body.tree)
     where
-      each_left : (ps : List Part) → AllByRecursion (λ p. (one.cpu ≡ two.cpu) ⊎ UsesNoCpu p) ps
+      each_left : (ps : List TreePart) → AllByRecursion (λ p. (one.cpu ≡ two.cpu) ⊎ UsesNoCpu p) ps
       each_left [] = tt
       each_left (p ∷ ps) = (inl e, each_left ps)
   seen_in body (inr all) = each_right (tree_parts body.tree) (recursion_from_All UsesNoCpu (tree_parts body.tree) all)
     where
-      each_right : (ps : List Part) → AllByRecursion UsesNoCpu ps → AllByRecursion (λ p. (one.cpu ≡ two.cpu) ⊎ UsesNoCpu p) ps
+      each_right : (ps : List TreePart) → AllByRecursion UsesNoCpu ps → AllByRecursion (λ p. (one.cpu ≡ two.cpu) ⊎ UsesNoCpu p) ps
       each_right [] h = tt
       each_right (p ∷ ps) h = (inr h.0, each_right ps h.1)
 

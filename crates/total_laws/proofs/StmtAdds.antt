@@ -22,7 +22,7 @@ use Rattle.typed_tree.specs.declared.stmt.TypedStmt.TheOpen.{TypedStmt-F, TypedB
 use Rattle.typed_tree.specs.declared.stmt.TypedStmt.TheShapes.{former-TypedStmt-If-0-at-2}
 use Rattle.typed_tree.specs.Bodies.{predicate_parts, tree_parts}
 use Rattle.typed_tree.specs.Parts as tree
-use Rattle.typed_tree.specs.Parts.{Part, made_of, num_parts, parts_in, stmt_parts, block_parts, arm_parts, otherwise_parts, joined, number_parts, Ending, Otherwise}
+use Rattle.typed_tree.specs.Parts.{TreePart, made_of, num_parts, parts_in, stmt_parts, block_parts, arm_parts, otherwise_parts, joined, number_parts, Ending, Otherwise}
 use Rattle.bt_meaning.specs.Totals.{Addition, added}
 use Rattle.walk_meaning.specs.declared.flow.Flow.{Flow}
 use Rattle.walk_meaning.specs.declared.flow.Flow.TheVariants.{Next, Break, Continue, Stop}
@@ -43,7 +43,7 @@ module _ (m : MapId) (one two : BodyScene) (like : AreLike one two) where
   abbrev Gets : {A : Type 0} → Does A → Type 0
   Gets d = Sure m one two like d
 
-  abbrev Calm : List Part → Type 0
+  abbrev Calm : List TreePart → Type 0
   Calm parts = AreQuiet one two parts
 
   flow-sure : (flow : Flow) → Gets (given flow)
@@ -153,8 +153,8 @@ module _ (m : MapId) (one two : BodyScene) (like : AreLike one two) where
   abbrev ManyBlock : Type 0
   ManyBlock = (b : TypedBlock) × BlockSure b
 
-  abbrev parts_of_all : Bool → List ManyStmt → List Part
-  parts_of_all inside ss = joined (map (λ (k : Bool → List Part). k inside) (map stmt_parts (map (λ (k : ManyStmt). k.0) ss)))
+  abbrev parts_of_all : Bool → List ManyStmt → List TreePart
+  parts_of_all inside ss = joined (map (λ (k : Bool → List TreePart). k inside) (map stmt_parts (map (λ (k : ManyStmt). k.0) ss)))
 
   stmts-sure : (ss : List ManyStmt) (inside : Bool) → Calm (parts_of_all inside ss) → Gets (in_sequence (map stmt_does (map (λ (k : ManyStmt). k.0) ss)))
   stmts-sure [] inside q = flow-sure Next
@@ -167,9 +167,9 @@ module _ (m : MapId) (one two : BodyScene) (like : AreLike one two) where
   abbrev blocks_of : List (NumExpr × ManyBlock) → List (NumExpr × TypedBlock)
   blocks_of arms = map (former-TypedStmt-If-0-at-2.map ManyBlock TypedBlock (λ k. k.0)) arms
 
-  abbrev arms_made : Bool → List (NumExpr × ManyBlock) → List Part
+  abbrev arms_made : Bool → List (NumExpr × ManyBlock) → List TreePart
   arms_made inside arms =
-      joined (map (λ (arm : NumExpr × (Bool → List Part)). arm_parts (arm.0, arm.1 inside)) (map (former-TypedStmt-If-0-at-2.map TypedBlock (Bool → List Part) block_parts) (blocks_of arms)))
+      joined (map (λ (arm : NumExpr × (Bool → List TreePart)). arm_parts (arm.0, arm.1 inside)) (map (former-TypedStmt-If-0-at-2.map TypedBlock (Bool → List TreePart) block_parts) (blocks_of arms)))
 
   arms-sure : (arms : List (NumExpr × ManyBlock)) (inside : Bool) (otherwise : Does Flow) → Calm (arms_made inside arms) → Gets otherwise
       → Gets (first_arm (map arm_does (map (former-TypedStmt-If-0-at-2.map TypedBlock (Does Flow) block_does) (blocks_of arms))) otherwise)
@@ -193,7 +193,7 @@ module _ (m : MapId) (one two : BodyScene) (like : AreLike one two) where
   emit-sure op p q = plain-sure (lifted (λ scene. tells Out op)) (told-sure m one two like Out op p q)
 
   stmt_case : (h : TypedStmt-F ManyStmt ManyBlock) (inside : Bool)
-      → Calm (tree.stmt_layer (map-TypedStmt TypedStmt TypedBlock (Bool → List Part) (Bool → List Part) stmt_parts block_parts (stmt_of h)) inside)
+      → Calm (tree.stmt_layer (map-TypedStmt TypedStmt TypedBlock (Bool → List TreePart) (Bool → List TreePart) stmt_parts block_parts (stmt_of h)) inside)
       → Gets (stmt_by_parts (map-TypedStmt TypedStmt TypedBlock (Does Flow) (Does Flow) stmt_does block_does (stmt_of h)))
   stmt_case (TypedStmt-F.SetVar var value) inside q =
       bind-sure m one two like (value_does value) _ (any_sure m one two like value q.1.1) (λ x. plain-sure (changed _) (changed-sure m one two like _))
@@ -230,7 +230,7 @@ module _ (m : MapId) (one two : BodyScene) (like : AreLike one two) where
   stmt_step : (x : TypedStmt-F TypedStmt TypedBlock) (h : TypedStmt-F ManyStmt ManyBlock) → stmt_of h ≡ x → StmtSure (roll-TypedStmt x)
   stmt_step x h e = subst (λ (y : TypedStmt-F TypedStmt TypedBlock). StmtSure (roll-TypedStmt y)) e (λ inside q.
       subst (λ (d : Does Flow). Gets d) (sym (fold-roll-TypedStmt (Does Flow) (Does Flow) stmt_by_parts block_by_parts (stmt_of h)))
-      (stmt_case h inside (subst (λ (k : Bool → List Part). Calm (k inside)) (fold-roll-TypedStmt (Bool → List Part) (Bool → List Part) tree.stmt_layer tree.block_layer (stmt_of h)) q)))
+      (stmt_case h inside (subst (λ (k : Bool → List TreePart). Calm (k inside)) (fold-roll-TypedStmt (Bool → List TreePart) (Bool → List TreePart) tree.stmt_layer tree.block_layer (stmt_of h)) q)))
 
   abbrev block_of : TypedBlock-F ManyStmt ManyBlock → TypedBlock-F TypedStmt TypedBlock
   block_of h = map-TypedBlock ManyStmt ManyBlock TypedStmt TypedBlock (λ k. k.0) (λ k. k.0) h
@@ -239,7 +239,7 @@ module _ (m : MapId) (one two : BodyScene) (like : AreLike one two) where
   block_step x h e = subst (λ (y : TypedBlock-F TypedStmt TypedBlock). BlockSure (roll-TypedBlock y)) e (λ inside q.
       subst (λ (d : Does Flow). Gets d) (sym (fold-roll-TypedBlock (Does Flow) (Does Flow) stmt_by_parts block_by_parts (block_of h)))
       (stmts-sure h.stmts inside (front m one two like (parts_of_all inside h.stmts) (Ending ∷ [])
-      (subst (λ (k : Bool → List Part). Calm (k inside)) (fold-roll-TypedBlock (Bool → List Part) (Bool → List Part) tree.stmt_layer tree.block_layer (block_of h)) q))))
+      (subst (λ (k : Bool → List TreePart). Calm (k inside)) (fold-roll-TypedBlock (Bool → List TreePart) (Bool → List TreePart) tree.stmt_layer tree.block_layer (block_of h)) q))))
 
   block_sure : (b : TypedBlock) → BlockSure b
   block_sure b = ind-TypedBlock StmtSure BlockSure stmt_step block_step b

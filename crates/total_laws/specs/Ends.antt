@@ -19,7 +19,7 @@ use Rattle.typed_tree.specs.declared.expr.NumBuiltin.{NumBuiltin}
 use Rattle.typed_tree.specs.declared.expr.NumBuiltin.TheVariants as builtins
 use Rattle.typed_tree.specs.declared.script.Typed.{Typed}
 use Rattle.typed_tree.specs.Bodies.{tree_parts}
-use Rattle.typed_tree.specs.Parts.{Part, Numeric}
+use Rattle.typed_tree.specs.Parts.{TreePart, Numeric}
 use Rattle.agg_core.specs.Aggregates.{aggregate}
 use Rattle.agg_core.specs.Answers.{agg_kind_in}
 use Rattle.map_printer.specs.Ends.{map_texts}
@@ -74,7 +74,7 @@ IsNotCpu builtins.Cpu = ⊥
 IsNotCpu builtin = ⊤
 
 -- a part other than `cpu`
-abbrev pub UsesNoCpu : Part → Type 0
+abbrev pub UsesNoCpu : TreePart → Type 0
 UsesNoCpu (Numeric builtin) = IsNotCpu builtin
 UsesNoCpu part = ⊤
 

@@ -21,7 +21,7 @@ use Rattle.event_layout.specs.declared.field.FieldKind.TheVariants.{Number, Char
 use Rattle.event_layout.specs.declared.layout.Layout.{Layout}
 use Rattle.typed_tree.specs.declared.stmt.Jump.{Jump}
 use Rattle.typed_tree.specs.declared.stmt.Jump.TheVariants.{Break, Continue, Exit, Return}
-use Rattle.typed_tree.specs.Parts.{Part, Constant, Literal, Numeric, Command, FieldOf, VarOf, MapOf, AggOf, Stepped, Prefixed, Joined, Both, Either, Chosen}
+use Rattle.typed_tree.specs.Parts.{TreePart, Constant, Literal, Numeric, Command, FieldOf, VarOf, MapOf, AggOf, Stepped, Prefixed, Joined, Both, Either, Chosen}
 use Rattle.typed_tree.specs.Parts.{Assigned, Gathered, Deleted, Printed, Shown, Cleared, Zeroed, Jumped, Looped, Unrolled, Arm, Otherwise, NoOtherwise, Ending}
 
 -- the maps and formats that may be named, by their numbers in the script, the layout of the event, and the types of the variables
@@ -172,7 +172,7 @@ abbrev pub may_print : ℕ → ℤ → Bool
 may_print top div = int_le (pos 1) div && nat_lt top (2 ^ 63)
 
 -- a part names what is there, in its type, and breaks no rule
-abbrev pub fits : Scope → Part → Bool
+abbrev pub fits : Scope → TreePart → Bool
 fits s (FieldOf field shape) = has_field s.layout field && is_shape (shape_of_field field.kind) shape
 fits s (VarOf number shape) = is_shape (slice_get s.variables number) shape
 fits s (MapOf number keys shape) = is_declared (decl_of number s.maps) (kind_of_shape shape) keys
@@ -202,5 +202,5 @@ fits s Otherwise = true
 fits s NoOtherwise = true
 fits s Ending = true
 
-abbrev pub all_fit : Scope → List Part → Bool
+abbrev pub all_fit : Scope → List TreePart → Bool
 all_fit scope parts = list_all (fits scope) parts

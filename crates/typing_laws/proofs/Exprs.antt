@@ -7,7 +7,7 @@ use Rattle.typed_tree.specs.declared.expr.AnyExpr.TheOpen.{NumExpr-F, StrExpr-F,
 use Rattle.typed_tree.specs.declared.expr.NumExpr.{NumExpr, roll-NumExpr, map-NumExpr, fold-roll-NumExpr, ind-NumExpr}
 use Rattle.typed_tree.specs.declared.expr.StrExpr.{StrExpr, roll-StrExpr, map-StrExpr, fold-roll-StrExpr}
 use Rattle.typed_tree.specs.Parts as tree
-use Rattle.typed_tree.specs.Parts.{Made, Part, made_of, num_parts, str_parts, parts_in, key_shapes, keyed_parts, compared, AggOf, Stepped, Prefixed, Joined, Both, Either, Chosen}
+use Rattle.typed_tree.specs.Parts.{Made, TreePart, made_of, num_parts, str_parts, parts_in, key_shapes, keyed_parts, compared, AggOf, Stepped, Prefixed, Joined, Both, Either, Chosen}
 use Rattle.typing_laws.proofs.Reader.{Value, Num, Text, Item, Held, Slot, Cell, Stack, num, push, value, num_in, any_in, num_of, any_of, map_of, past_keys, joined_by, is_equal, chosen, step, run, run-append, run_two, Pushes, PushesAny, PushesAll, all_pushed, keys_found, behind_keys}
 
 abbrev pub AnyReads : AnyExpr → Type 0
@@ -67,24 +67,24 @@ module _ (m : ℕ) (keys : List Made) (es : List AnyExpr) (st : Stack) where
 abbrev num_from : NumExpr-F ManyAny ManyNum ManyStr → NumExpr-F AnyExpr NumExpr StrExpr
 num_from h = map-NumExpr ManyAny ManyNum ManyStr AnyExpr NumExpr StrExpr (λ k. k.0) (λ k. k.0) (λ k. k.0) h
 
-abbrev num_made : NumExpr-F ManyAny ManyNum ManyStr → List Part
-num_made h = tree.num_layer (map-NumExpr AnyExpr NumExpr StrExpr Made (List Part) (List Part) made_of num_parts str_parts (num_from h))
+abbrev num_made : NumExpr-F ManyAny ManyNum ManyStr → List TreePart
+num_made h = tree.num_layer (map-NumExpr AnyExpr NumExpr StrExpr Made (List TreePart) (List TreePart) made_of num_parts str_parts (num_from h))
 
 -- two operands
-record Two (ps qs : List Part) (st : Stack) (v w : Value) : Type 0 where
+record Two (ps qs : List TreePart) (st : Stack) (v w : Value) : Type 0 where
   left : Item
   right : Item
   reads : run (ps ++ qs) st ≡ push left (push right st)
   left_worth : value left ≡ v
   right_worth : value right ≡ w
 
-two : (ps qs : List Part) (st : Stack) (v w : Value) → ((s : Stack) → Pushes ps s v) → ((s : Stack) → Pushes qs s w) → Two ps qs st v w
+two : (ps qs : List TreePart) (st : Stack) (v w : Value) → ((s : Stack) → Pushes ps s v) → ((s : Stack) → Pushes qs s w) → Two ps qs st v w
 two ps qs st v w p q =
     let right = q st in
     let left = p (push right.item st) in
     record { left = left.item; right = right.item; reads = run_two ps qs st left.item right.item right.reads left.reads; left_worth = left.worth; right_worth = right.worth }
 
-record Three (ps qs rs : List Part) (st : Stack) (u v w : Value) : Type 0 where
+record Three (ps qs rs : List TreePart) (st : Stack) (u v w : Value) : Type 0 where
   one : Item
   left : Item
   right : Item
@@ -93,7 +93,7 @@ record Three (ps qs rs : List Part) (st : Stack) (u v w : Value) : Type 0 where
   left_worth : value left ≡ v
   right_worth : value right ≡ w
 
-three : (ps qs rs : List Part) (st : Stack) (u v w : Value) → ((s : Stack) → Pushes ps s u) → ((s : Stack) → Pushes qs s v) → ((s : Stack) → Pushes rs s w) → Three ps qs rs st u v w
+three : (ps qs rs : List TreePart) (st : Stack) (u v w : Value) → ((s : Stack) → Pushes ps s u) → ((s : Stack) → Pushes qs s v) → ((s : Stack) → Pushes rs s w) → Three ps qs rs st u v w
 three ps qs rs st u v w p q r =
     let pair = two qs rs st v w q r in
     let one = p (push pair.left (push pair.right st)) in
@@ -108,7 +108,7 @@ three ps qs rs st u v w p q r =
     }
 
 -- a construct of two operands, or of three, that is made of their values
-pairs : (word : Part) (made : Value → Value → Value) (ps qs : List Part) (st : Stack) (v w : Value) → ((i j : Item) → step word (push i (push j st)) ≡ push (Held (made (value i) (value j))) st)
+pairs : (word : TreePart) (made : Value → Value → Value) (ps qs : List TreePart) (st : Stack) (v w : Value) → ((i j : Item) → step word (push i (push j st)) ≡ push (Held (made (value i) (value j))) st)
     → Two ps qs st v w → Pushes (word ∷ (ps ++ qs)) st (made v w)
 pairs word made ps qs st v w steps p = record {
   item = Held (made (value p.left) (value p.right));
@@ -116,7 +116,7 @@ pairs word made ps qs st v w steps p = record {
   worth = ap (λ (x : Value). made x (value p.right)) p.left_worth ∙ ap (made v) p.right_worth;
 }
 
-choice : (ps qs rs : List Part) (st : Stack) (u v w : Value) → Three ps qs rs st u v w → Pushes (Chosen ∷ (ps ++ (qs ++ rs))) st (chosen (num_in u) v w)
+choice : (ps qs rs : List TreePart) (st : Stack) (u v w : Value) → Three ps qs rs st u v w → Pushes (Chosen ∷ (ps ++ (qs ++ rs))) st (chosen (num_in u) v w)
 choice ps qs rs st u v w p = record {
   item = Held (chosen (num_of p.one) (value p.left) (value p.right));
   reads = ap (step Chosen) p.reads;
@@ -169,8 +169,8 @@ num_case (NumExpr-F.NumExpr::Choose c y o) st =
 abbrev str_from : StrExpr-F ManyAny ManyNum ManyStr → StrExpr-F AnyExpr NumExpr StrExpr
 str_from h = map-StrExpr ManyAny ManyNum ManyStr AnyExpr NumExpr StrExpr (λ k. k.0) (λ k. k.0) (λ k. k.0) h
 
-abbrev str_made : StrExpr-F ManyAny ManyNum ManyStr → List Part
-str_made h = tree.str_layer (map-StrExpr AnyExpr NumExpr StrExpr Made (List Part) (List Part) made_of num_parts str_parts (str_from h))
+abbrev str_made : StrExpr-F ManyAny ManyNum ManyStr → List TreePart
+str_made h = tree.str_layer (map-StrExpr AnyExpr NumExpr StrExpr Made (List TreePart) (List TreePart) made_of num_parts str_parts (str_from h))
 
 str_case : (h : StrExpr-F ManyAny ManyNum ManyStr) (st : Stack) → Pushes (str_made h) st (Text (roll-StrExpr (str_from h)))
 str_case (StrExpr-F.Text s) st = record { item = Held (Text (roll-StrExpr (StrExpr-F.Text s))); reads = refl; worth = refl }
@@ -187,9 +187,9 @@ abbrev any_from : AnyExpr-F ManyAny ManyNum ManyStr → AnyExpr-F AnyExpr NumExp
 any_from h = map-AnyExpr ManyAny ManyNum ManyStr AnyExpr NumExpr StrExpr (λ k. k.0) (λ k. k.0) (λ k. k.0) h
 
 abbrev any_made : AnyExpr-F ManyAny ManyNum ManyStr → Made
-any_made h = tree.any_layer (map-AnyExpr AnyExpr NumExpr StrExpr Made (List Part) (List Part) made_of num_parts str_parts (any_from h))
+any_made h = tree.any_layer (map-AnyExpr AnyExpr NumExpr StrExpr Made (List TreePart) (List TreePart) made_of num_parts str_parts (any_from h))
 
-of_value : (ps : List Part) (st : Stack) (v : Value) → Pushes ps st v → PushesAny ps st (any_in v)
+of_value : (ps : List TreePart) (st : Stack) (v : Value) → Pushes ps st v → PushesAny ps st (any_in v)
 of_value ps st v p = record { item = p.item; reads = p.reads; worth = ap any_in p.worth }
 
 any_case : (h : AnyExpr-F ManyAny ManyNum ManyStr) (st : Stack) → PushesAny (any_made h).parts st (roll-AnyExpr (any_from h))
@@ -198,20 +198,20 @@ any_case (AnyExpr-F.Str d) st = of_value (str_parts d.0) st (Text d.0) (d.1 st)
 
 num_step : (x : NumExpr-F AnyExpr NumExpr StrExpr) (h : NumExpr-F ManyAny ManyNum ManyStr) → num_from h ≡ x → NumReads (roll-NumExpr x)
 num_step x h e = subst (λ (y : NumExpr-F AnyExpr NumExpr StrExpr). NumReads (roll-NumExpr y)) e
-    (subst (λ (ps : List Part). (st : Stack) → Pushes ps st (Num (roll-NumExpr (num_from h))))
-    (sym (fold-roll-NumExpr Made (List Part) (List Part) tree.any_layer tree.num_layer tree.str_layer (num_from h)))
+    (subst (λ (ps : List TreePart). (st : Stack) → Pushes ps st (Num (roll-NumExpr (num_from h))))
+    (sym (fold-roll-NumExpr Made (List TreePart) (List TreePart) tree.any_layer tree.num_layer tree.str_layer (num_from h)))
     (num_case h))
 
 str_step : (x : StrExpr-F AnyExpr NumExpr StrExpr) (h : StrExpr-F ManyAny ManyNum ManyStr) → str_from h ≡ x → StrReads (roll-StrExpr x)
 str_step x h e = subst (λ (y : StrExpr-F AnyExpr NumExpr StrExpr). StrReads (roll-StrExpr y)) e
-    (subst (λ (ps : List Part). (st : Stack) → Pushes ps st (Text (roll-StrExpr (str_from h))))
-    (sym (fold-roll-StrExpr Made (List Part) (List Part) tree.any_layer tree.num_layer tree.str_layer (str_from h)))
+    (subst (λ (ps : List TreePart). (st : Stack) → Pushes ps st (Text (roll-StrExpr (str_from h))))
+    (sym (fold-roll-StrExpr Made (List TreePart) (List TreePart) tree.any_layer tree.num_layer tree.str_layer (str_from h)))
     (str_case h))
 
 any_step : (x : AnyExpr-F AnyExpr NumExpr StrExpr) (h : AnyExpr-F ManyAny ManyNum ManyStr) → any_from h ≡ x → AnyReads (roll-AnyExpr x)
 any_step x h e = subst (λ (y : AnyExpr-F AnyExpr NumExpr StrExpr). AnyReads (roll-AnyExpr y)) e
     (subst (λ (m : Made). (st : Stack) → PushesAny m.parts st (roll-AnyExpr (any_from h)))
-    (sym (fold-roll-AnyExpr Made (List Part) (List Part) tree.any_layer tree.num_layer tree.str_layer (any_from h)))
+    (sym (fold-roll-AnyExpr Made (List TreePart) (List TreePart) tree.any_layer tree.num_layer tree.str_layer (any_from h)))
     (any_case h))
 
 pub num_reads : (e : NumExpr) → NumReads e

@@ -15,7 +15,7 @@ use Rattle.typed_tree.specs.declared.expr.StrExpr.{StrExpr, roll-StrExpr}
 use Rattle.typed_tree.specs.declared.stmt.TypedBlock.{TypedBlock, roll-TypedBlock}
 use Rattle.typed_tree.specs.declared.stmt.TypedStmt.{TypedStmt, roll-TypedStmt}
 use Rattle.typed_tree.specs.declared.stmt.TypedStmt.TheOpen.{TypedStmt-F}
-use Rattle.typed_tree.specs.Parts.{Part, Constant, Literal, Numeric, Command, FieldOf, VarOf, MapOf, AggOf, Stepped, Prefixed, Joined, Both, Either, Chosen}
+use Rattle.typed_tree.specs.Parts.{TreePart, Constant, Literal, Numeric, Command, FieldOf, VarOf, MapOf, AggOf, Stepped, Prefixed, Joined, Both, Either, Chosen}
 use Rattle.typed_tree.specs.Parts.{Assigned, Gathered, Deleted, Printed, Shown, Cleared, Zeroed, Jumped, Looped, Unrolled, Arm, Otherwise, NoOtherwise, Ending}
 
 -- ---- trees of one layer
@@ -197,7 +197,7 @@ gathered true number kind keys st = done (TypedStmt-F.Gather (map_of number) key
 gathered false number kind keys st = done (TypedStmt-F.Gather (map_of number) keys kind (Some (num_of (top st)))) (below st)
 
 -- a part, before what was read behind it
-abbrev pub step : Part → Stack → Stack
+abbrev pub step : TreePart → Stack → Stack
 step (Constant number) st = push (Held (Num (num (NumExpr-F.Number number)))) st
 step (Literal text) st = push (Held (Text (str (StrExpr-F.Text text)))) st
 step (Numeric builtin) st = push (Held (Num (num (NumExpr-F.Builtin builtin)))) st
@@ -227,7 +227,7 @@ step Otherwise st = push (Choice [] (Some (block_of st.here))) (leave st)
 step NoOtherwise st = push (Choice [] None) st
 step Ending st = enter st
 
-abbrev pub run : List Part → Stack → Stack
+abbrev pub run : List TreePart → Stack → Stack
 run [] st = st
 run (p ∷ ps) st = step p (run ps st)
 
@@ -242,27 +242,27 @@ Guarded = Option NumExpr × TypedBlock
 abbrev pub guarded : Stack → Guarded
 guarded st = (Some (num_of (top st)), block_of (others st.here))
 
-abbrev pub read_body : List Part → Guarded
+abbrev pub read_body : List TreePart → Guarded
 read_body [] = (None, block_of [])
 read_body (Otherwise ∷ ps) = guarded (run ps fresh)
 read_body (p ∷ ps) = (None, block_of (run ps fresh).here)
 
 -- ---- parts in turn
 
-pub run-append : (ps qs : List Part) (st : Stack) → run (ps ++ qs) st ≡ run ps (run qs st)
+pub run-append : (ps qs : List TreePart) (st : Stack) → run (ps ++ qs) st ≡ run ps (run qs st)
 run-append [] qs st = refl
 run-append (p ∷ ps) qs st = ap (step p) (run-append ps qs st)
 
-pub run_two : (ps qs : List Part) (st : Stack) (i j : Item) → run qs st ≡ push j st → run ps (push j st) ≡ push i (push j st) → run (ps ++ qs) st ≡ push i (push j st)
+pub run_two : (ps qs : List TreePart) (st : Stack) (i j : Item) → run qs st ≡ push j st → run ps (push j st) ≡ push i (push j st) → run (ps ++ qs) st ≡ push i (push j st)
 run_two ps qs st i j e f = run-append ps qs st ∙ (ap (run ps) e ∙ f)
 
 -- reading these parts pushes an item that is this expression
-pub record Pushes (ps : List Part) (st : Stack) (v : Value) : Type 0 where
+pub record Pushes (ps : List TreePart) (st : Stack) (v : Value) : Type 0 where
   pub item : Item
   pub reads : run ps st ≡ push item st
   pub worth : value item ≡ v
 
-pub record PushesAny (ps : List Part) (st : Stack) (a : AnyExpr) : Type 0 where
+pub record PushesAny (ps : List TreePart) (st : Stack) (a : AnyExpr) : Type 0 where
   pub item : Item
   pub reads : run ps st ≡ push item st
   pub worth : any_of item ≡ a
@@ -271,7 +271,7 @@ abbrev pub all_pushed : List Item → Stack → Stack
 all_pushed items st = record { here = items ++ st.here; outer = st.outer }
 
 -- reading these parts pushes as many items as that, which are these expressions
-pub record PushesAll (ps : List Part) (n : ℕ) (st : Stack) (es : List AnyExpr) : Type 0 where
+pub record PushesAll (ps : List TreePart) (n : ℕ) (st : Stack) (es : List AnyExpr) : Type 0 where
   pub items : List Item
   pub reads : run ps st ≡ all_pushed items st
   pub many : n ≡ length items
@@ -285,7 +285,7 @@ past_pushed : (items later : List Item) → past (length items) (items ++ later)
 past_pushed [] later = refl
 past_pushed (i ∷ items) later = past_pushed items later
 
-module _ (ps : List Part) (n : ℕ) (st : Stack) (es : List AnyExpr) (p : PushesAll ps n st es) where
+module _ (ps : List TreePart) (n : ℕ) (st : Stack) (es : List AnyExpr) (p : PushesAll ps n st es) where
   -- the key that is found, and the stack behind it
   pub keys_found : keys_in n (run ps st).here ≡ es
   keys_found =

@@ -13,20 +13,20 @@ use Rattle.typed_tree.specs.declared.stmt.TypedStmt.TheOpen.{TypedStmt-F, TypedB
 use Rattle.typed_tree.specs.declared.stmt.TypedStmt.TheShapes.{former-TypedStmt-If-0-at-2}
 use Rattle.typed_tree.specs.Bodies.{predicate_parts, tree_parts}
 use Rattle.typed_tree.specs.Parts as tree
-use Rattle.typed_tree.specs.Parts.{Part, Made, made_of, num_parts, parts_in, key_shapes, keyed_parts, stmt_parts, block_parts, arm_parts, otherwise_parts, joined, gather_parts, printf_parts, delete_parts}
+use Rattle.typed_tree.specs.Parts.{TreePart, Made, made_of, num_parts, parts_in, key_shapes, keyed_parts, stmt_parts, block_parts, arm_parts, otherwise_parts, joined, gather_parts, printf_parts, delete_parts}
 use Rattle.typed_tree.specs.Parts.{Assigned, Gathered, Printed, Deleted, Looped, Unrolled, Arm, Otherwise, NoOtherwise, Ending, VarOf}
 use Rattle.typing_laws.proofs.Reader.{Value, Num, Item, Held, Slot, Cell, Done, Choice, Stack, push, value, num_in, num_of, any_of, stmt, stmt_of, block_of, map_of, done, enter, assigned, gathered, past_keys, step, fresh, guarded, read_body}
 use Rattle.typing_laws.proofs.Reader.{run, run-append, run_two, PushesAll, all_pushed, keys_found, behind_keys}
 use Rattle.typing_laws.proofs.Exprs.{AnyReads, any_reads, num_reads, values_pushed, cell_pushed}
 
 -- reading these parts pushes an item that is this statement
-pub record Tells (ps : List Part) (st : Stack) (s : TypedStmt) : Type 0 where
+pub record Tells (ps : List TreePart) (st : Stack) (s : TypedStmt) : Type 0 where
   pub item : Item
   pub reads : run ps st ≡ push item st
   pub worth : stmt_of item ≡ s
 
 -- reading these parts leaves the statements of this block, up to their end
-pub record Fills (ps : List Part) (st : Stack) (b : TypedBlock) : Type 0 where
+pub record Fills (ps : List TreePart) (st : Stack) (b : TypedBlock) : Type 0 where
   pub items : List Item
   pub reads : run ps st ≡ record { here = items; outer = st.here ∷ st.outer }
   pub worth : block_of items ≡ b
@@ -61,7 +61,7 @@ keys_read es =
 -- ---- statements
 
 -- a target, and the value behind it
-assigns : (op : Option BinOp) (target ps : List Part) (i j : Item) (st : Stack) (s : TypedStmt) → run ps st ≡ push j st → run target (push j st) ≡ push i (push j st) → assigned op i (value j) ≡ s
+assigns : (op : Option BinOp) (target ps : List TreePart) (i j : Item) (st : Stack) (s : TypedStmt) → run ps st ≡ push j st → run target (push j st) ≡ push i (push j st) → assigned op i (value j) ≡ s
     → Tells (Assigned op ∷ (target ++ ps)) st s
 assigns op target ps i j st s e f g = record {
   item = Done (assigned op i (value j));
@@ -70,14 +70,14 @@ assigns op target ps i j st s e f g = record {
 }
 
 -- a map with its key, before a value
-assigns_map : (op : Option BinOp) (number : ℕ) (keys : List AnyExpr) (shape : Shape) (ps : List Part) (j : Item) (st : Stack) (s : TypedStmt) → run ps st ≡ push j st → assigned op (Cell number keys shape) (value j) ≡ s
+assigns_map : (op : Option BinOp) (number : ℕ) (keys : List AnyExpr) (shape : Shape) (ps : List TreePart) (j : Item) (st : Stack) (s : TypedStmt) → run ps st ≡ push j st → assigned op (Cell number keys shape) (value j) ≡ s
     → Tells (Assigned op ∷ (keyed_parts number (map made_of keys) shape ++ ps)) st s
 assigns_map op number keys shape ps j st s e g =
     assigns op (keyed_parts number (map made_of keys) shape) ps (Cell number keys shape) j st s e
     (cell_pushed number (map made_of keys) keys (push j st) shape (keys_read keys (push j st))) g
 
 -- an aggregation, whose number stands behind the key
-gathers : (number : ℕ) (keys : List AnyExpr) (kind : AggKind) (counts : Bool) (ps : List Part) (st behind : Stack) → run ps st ≡ behind
+gathers : (number : ℕ) (keys : List AnyExpr) (kind : AggKind) (counts : Bool) (ps : List TreePart) (st behind : Stack) → run ps st ≡ behind
     → run (Gathered number (key_shapes (map made_of keys)) kind counts ∷ (parts_in (map made_of keys) ++ ps)) st ≡ gathered counts number kind keys behind
 gathers number keys kind counts ps st behind f =
     let all = keys_read keys behind in
@@ -124,14 +124,14 @@ delete_reads m keys st =
 -- ---- blocks
 
 -- a test, and a block behind it
-record Tests (ps qs : List Part) (st : Stack) (e : NumExpr) (b : TypedBlock) : Type 0 where
+record Tests (ps qs : List TreePart) (st : Stack) (e : NumExpr) (b : TypedBlock) : Type 0 where
   test : Item
   items : List Item
   reads : run (ps ++ qs) st ≡ record { here = test ∷ items; outer = st.here ∷ st.outer }
   test_worth : num_of test ≡ e
   block_worth : block_of items ≡ b
 
-tests : (e : NumExpr) (qs : List Part) (st : Stack) (b : TypedBlock) → Fills qs st b → Tests (num_parts e) qs st e b
+tests : (e : NumExpr) (qs : List TreePart) (st : Stack) (b : TypedBlock) → Fills qs st b → Tests (num_parts e) qs st e b
 tests e qs st b block =
     let test = num_reads e (record { here = block.items; outer = st.here ∷ st.outer }) in
     record {
@@ -142,7 +142,7 @@ tests e qs st b block =
       block_worth = block.worth;
     }
 
-while_reads : (e : NumExpr) (qs : List Part) (line : ℕ) (st : Stack) (b : TypedBlock) → Fills qs st b → Tells (Looped line ∷ (num_parts e ++ qs)) st (stmt (TypedStmt-F.While e b line))
+while_reads : (e : NumExpr) (qs : List TreePart) (line : ℕ) (st : Stack) (b : TypedBlock) → Fills qs st b → Tells (Looped line ∷ (num_parts e ++ qs)) st (stmt (TypedStmt-F.While e b line))
 while_reads e qs line st b q =
     let p = tests e qs st b q in
     record {
@@ -151,7 +151,7 @@ while_reads e qs line st b q =
       worth = ap (λ (n : NumExpr). stmt (TypedStmt-F.While n (block_of p.items) line)) p.test_worth ∙ ap (λ (c : TypedBlock). stmt (TypedStmt-F.While e c line)) p.block_worth;
     }
 
-unroll_reads : (turns line : ℕ) (qs : List Part) (st : Stack) (b : TypedBlock) → Fills qs st b → Tells (Unrolled turns line ∷ qs) st (stmt (TypedStmt-F.Unroll turns b line))
+unroll_reads : (turns line : ℕ) (qs : List TreePart) (st : Stack) (b : TypedBlock) → Fills qs st b → Tells (Unrolled turns line ∷ qs) st (stmt (TypedStmt-F.Unroll turns b line))
 unroll_reads turns line qs st b p = record {
   item = Done (stmt (TypedStmt-F.Unroll turns (block_of p.items) line));
   reads = ap (step (Unrolled turns line)) p.reads;
@@ -159,14 +159,14 @@ unroll_reads turns line qs st b p = record {
 }
 
 -- the block of an `else`
-else_reads : (qs : List Part) (st : Stack) (b : TypedBlock) → Fills qs st b → run (Otherwise ∷ qs) st ≡ push (Choice [] (Some b)) st
+else_reads : (qs : List TreePart) (st : Stack) (b : TypedBlock) → Fills qs st b → run (Otherwise ∷ qs) st ≡ push (Choice [] (Some b)) st
 else_reads qs st b p = ap (step Otherwise) p.reads ∙ ap (λ (c : TypedBlock). push (Choice [] (Some c)) st) p.worth
 
 abbrev Arms : Type 0
 Arms = List (NumExpr × TypedBlock)
 
 -- one more arm
-arm_reads : (e : NumExpr) (qs : List Part) (b : TypedBlock) (arms : Arms) (otherwise : Option TypedBlock) (st : Stack) → Fills qs (push (Choice arms otherwise) st) b
+arm_reads : (e : NumExpr) (qs : List TreePart) (b : TypedBlock) (arms : Arms) (otherwise : Option TypedBlock) (st : Stack) → Fills qs (push (Choice arms otherwise) st) b
     → run (Arm ∷ (num_parts e ++ qs)) (push (Choice arms otherwise) st) ≡ push (Choice ((e, b) ∷ arms) otherwise) st
 arm_reads e qs b arms otherwise st q =
     let p = tests e qs (push (Choice arms otherwise) st) b q in
@@ -177,8 +177,8 @@ arm_reads e qs b arms otherwise st q =
 abbrev blocks_of : List (NumExpr × ManyBlock) → Arms
 blocks_of arms = map (former-TypedStmt-If-0-at-2.map ManyBlock TypedBlock (λ k. k.0)) arms
 
-abbrev arms_made : Bool → List (NumExpr × ManyBlock) → List Part
-arms_made inside arms = joined (map (λ (arm : NumExpr × (Bool → List Part)). arm_parts (arm.0, arm.1 inside)) (map (former-TypedStmt-If-0-at-2.map TypedBlock (Bool → List Part) block_parts) (blocks_of arms)))
+abbrev arms_made : Bool → List (NumExpr × ManyBlock) → List TreePart
+arms_made inside arms = joined (map (λ (arm : NumExpr × (Bool → List TreePart)). arm_parts (arm.0, arm.1 inside)) (map (former-TypedStmt-If-0-at-2.map TypedBlock (Bool → List TreePart) block_parts) (blocks_of arms)))
 
 arms_read : (arms : List (NumExpr × ManyBlock)) (inside : Bool) (otherwise : Option TypedBlock) (st : Stack)
     → run (arms_made inside arms) (push (Choice [] otherwise) st) ≡ push (Choice (blocks_of arms) otherwise) st
@@ -188,7 +188,7 @@ arms_read (arm ∷ arms) inside otherwise st =
     ∙ (ap (run (arm_parts (arm.0, block_parts arm.1.0 inside))) (arms_read arms inside otherwise st)
     ∙ arm_reads arm.0 (block_parts arm.1.0 inside) arm.1.0 (blocks_of arms) otherwise st (arm.1.1 inside (push (Choice (blocks_of arms) otherwise) st)))
 
-if_reads : (arms : List (NumExpr × ManyBlock)) (inside : Bool) (ps : List Part) (otherwise : Option TypedBlock) (st : Stack) → run ps st ≡ push (Choice [] otherwise) st
+if_reads : (arms : List (NumExpr × ManyBlock)) (inside : Bool) (ps : List TreePart) (otherwise : Option TypedBlock) (st : Stack) → run ps st ≡ push (Choice [] otherwise) st
     → Tells (arms_made inside arms ++ ps) st (stmt (TypedStmt-F.If (blocks_of arms) otherwise))
 if_reads arms inside ps otherwise st e = record {
   item = Choice (blocks_of arms) otherwise;
@@ -201,11 +201,11 @@ if_reads arms inside ps otherwise st e = record {
 abbrev firsts : List ManyStmt → List TypedStmt
 firsts ss = map (λ (k : ManyStmt). k.0) ss
 
-abbrev stmts_made : Bool → List ManyStmt → List Part
-stmts_made inside ss = joined (map (λ (k : Bool → List Part). k inside) (map stmt_parts (firsts ss)))
+abbrev stmts_made : Bool → List ManyStmt → List TreePart
+stmts_made inside ss = joined (map (λ (k : Bool → List TreePart). k inside) (map stmt_parts (firsts ss)))
 
 -- statements one after another
-record Row (ps : List Part) (st : Stack) (ss : List TypedStmt) : Type 0 where
+record Row (ps : List TreePart) (st : Stack) (ss : List TypedStmt) : Type 0 where
   items : List Item
   reads : run ps st ≡ all_pushed items st
   worth : map stmt_of items ≡ ss
@@ -224,8 +224,8 @@ stmts_read (s ∷ ss) inside st =
 abbrev stmt_from : TypedStmt-F ManyStmt ManyBlock → TypedStmt-F TypedStmt TypedBlock
 stmt_from h = map-TypedStmt ManyStmt ManyBlock TypedStmt TypedBlock (λ k. k.0) (λ k. k.0) h
 
-abbrev stmt_made : TypedStmt-F ManyStmt ManyBlock → Bool → List Part
-stmt_made h = tree.stmt_layer (map-TypedStmt TypedStmt TypedBlock (Bool → List Part) (Bool → List Part) stmt_parts block_parts (stmt_from h))
+abbrev stmt_made : TypedStmt-F ManyStmt ManyBlock → Bool → List TreePart
+stmt_made h = tree.stmt_layer (map-TypedStmt TypedStmt TypedBlock (Bool → List TreePart) (Bool → List TreePart) stmt_parts block_parts (stmt_from h))
 
 -- an expression that stands alone
 alone : (i : Item) (e : NumExpr) → value i ≡ Num e → stmt_of i ≡ stmt (TypedStmt-F.Step e)
@@ -265,15 +265,15 @@ stmt_case (TypedStmt-F.Unroll turns b line) inside st = unroll_reads turns line 
 
 stmt_step : (x : TypedStmt-F TypedStmt TypedBlock) (h : TypedStmt-F ManyStmt ManyBlock) → stmt_from h ≡ x → StmtReads (roll-TypedStmt x)
 stmt_step x h e = subst (λ (y : TypedStmt-F TypedStmt TypedBlock). StmtReads (roll-TypedStmt y)) e
-    (subst (λ (k : Bool → List Part). (inside : Bool) (st : Stack) → Tells (k inside) st (roll-TypedStmt (stmt_from h)))
-    (sym (fold-roll-TypedStmt (Bool → List Part) (Bool → List Part) tree.stmt_layer tree.block_layer (stmt_from h)))
+    (subst (λ (k : Bool → List TreePart). (inside : Bool) (st : Stack) → Tells (k inside) st (roll-TypedStmt (stmt_from h)))
+    (sym (fold-roll-TypedStmt (Bool → List TreePart) (Bool → List TreePart) tree.stmt_layer tree.block_layer (stmt_from h)))
     (stmt_case h))
 
 abbrev block_from : TypedBlock-F ManyStmt ManyBlock → TypedBlock-F TypedStmt TypedBlock
 block_from h = map-TypedBlock ManyStmt ManyBlock TypedStmt TypedBlock (λ k. k.0) (λ k. k.0) h
 
-abbrev block_made : TypedBlock-F ManyStmt ManyBlock → Bool → List Part
-block_made h = tree.block_layer (map-TypedBlock TypedStmt TypedBlock (Bool → List Part) (Bool → List Part) stmt_parts block_parts (block_from h))
+abbrev block_made : TypedBlock-F ManyStmt ManyBlock → Bool → List TreePart
+block_made h = tree.block_layer (map-TypedBlock TypedStmt TypedBlock (Bool → List TreePart) (Bool → List TreePart) stmt_parts block_parts (block_from h))
 
 block_case : (h : TypedBlock-F ManyStmt ManyBlock) (inside : Bool) (st : Stack) → Fills (block_made h inside) st (roll-TypedBlock (block_from h))
 block_case h inside st =
@@ -286,8 +286,8 @@ block_case h inside st =
 
 block_step : (x : TypedBlock-F TypedStmt TypedBlock) (h : TypedBlock-F ManyStmt ManyBlock) → block_from h ≡ x → BlockReads (roll-TypedBlock x)
 block_step x h e = subst (λ (y : TypedBlock-F TypedStmt TypedBlock). BlockReads (roll-TypedBlock y)) e
-    (subst (λ (k : Bool → List Part). (inside : Bool) (st : Stack) → Fills (k inside) st (roll-TypedBlock (block_from h)))
-    (sym (fold-roll-TypedBlock (Bool → List Part) (Bool → List Part) tree.stmt_layer tree.block_layer (block_from h)))
+    (subst (λ (k : Bool → List TreePart). (inside : Bool) (st : Stack) → Fills (k inside) st (roll-TypedBlock (block_from h)))
+    (sym (fold-roll-TypedBlock (Bool → List TreePart) (Bool → List TreePart) tree.stmt_layer tree.block_layer (block_from h)))
     (block_case h))
 
 block_reads : (b : TypedBlock) → BlockReads b

@@ -9,7 +9,7 @@ use Rattle.bt_core.specs.declared.place.Place.{Place}
 use Rattle.event_layout.specs.declared.field.Field.{Field}
 use Rattle.typed_tree.specs.declared.expr.NumBuiltin.{NumBuiltin}
 use Rattle.typed_tree.specs.declared.expr.NumBuiltin.TheVariants.{Pid}
-use Rattle.typed_tree.specs.Parts.{Part, Constant, Literal, Numeric, Command, FieldOf, VarOf, MapOf, AggOf, Stepped, Prefixed, Joined, Both, Either, Chosen}
+use Rattle.typed_tree.specs.Parts.{TreePart, Constant, Literal, Numeric, Command, FieldOf, VarOf, MapOf, AggOf, Stepped, Prefixed, Joined, Both, Either, Chosen}
 use Rattle.typed_tree.specs.Parts.{Assigned, Gathered, Deleted, Printed, Shown, Cleared, Zeroed, Jumped, Looped, Unrolled, Arm, Otherwise, NoOtherwise, Ending}
 use Rattle.typed_tree.specs.Scope.{shape_of_field, kind_of_shape, is_count, is_summed_kind, same_bool}
 use Rattle.expr_types.specs.declared.known.Known.{Known}
@@ -27,11 +27,11 @@ use Rattle.typing_laws.proofs.Reader.{Stack, step, run}
 
 -- ---- the part that a word stands for, as far as a reader of parts asks
 
-abbrev pub first_part : List Part → Part
+abbrev pub first_part : List TreePart → TreePart
 first_part [] = Ending
 first_part (p ∷ ps) = p
 
-abbrev pub field_part : Option Field → Part
+abbrev pub field_part : Option Field → TreePart
 field_part None = Ending
 field_part (Some field) = FieldOf field (unwrap_or (shape_of_field field.kind) Int)
 
@@ -39,16 +39,16 @@ field_part (Some field) = FieldOf field (unwrap_or (shape_of_field field.kind) I
 abbrev pub var_number : List ℕ → List Var → ℕ
 var_number name vars = first_at (λ v. var_named (record { name = name; shape = Int }) v) vars
 
-abbrev pub var_part : ℕ → Option Var → Part
+abbrev pub var_part : ℕ → Option Var → TreePart
 var_part number None = Ending
 var_part number (Some var) = VarOf number var.shape
 
-abbrev pub kind_part : ℕ → List Shape → MapKind → Part
+abbrev pub kind_part : ℕ → List Shape → MapKind → TreePart
 kind_part number keys Ints = MapOf number keys Int
 kind_part number keys Strs = MapOf number keys Str
 kind_part number keys (Aggs kind) = AggOf number keys
 
-abbrev pub map_part : ℕ → Option MapDecl → Part
+abbrev pub map_part : ℕ → Option MapDecl → TreePart
 map_part number None = Ending
 map_part number (Some decl) = kind_part number decl.key_shape decl.kind
 
@@ -56,7 +56,7 @@ abbrev pub keys_of : Option MapDecl → List Shape
 keys_of None = []
 keys_of (Some decl) = decl.key_shape
 
-abbrev pub part_by : Known → Word → Part
+abbrev pub part_by : Known → Word → TreePart
 part_by k (NumberWord number) = Constant number
 part_by k (TextWord text) = Literal text
 part_by k (BuiltinWord builtin) = first_part (builtin_made builtin).parts
@@ -135,11 +135,11 @@ module _ (k : Known) (apart : AreApart k) where
       ap (λ (f : List ℕ × Place). Printed (call_at f.0 f.1 k.printed) []) (format_is k.printed number call h)
       ∙ ap (λ n. Printed n []) (call_first call.text call.place k.printed ∙ apart.calls number call h)
 
-  is_back : (p : Part) → Fits k p → (st : Stack) → step (part_by k (word_of (titles_of k) p)) st ≡ step p st
-  is_back (FieldOf f shape) h st = ap (λ (p : Part). step p st) (ap field_part h.0 ∙ ap (λ (o : Option Shape). FieldOf f (unwrap_or o Int)) h.1)
-  is_back (VarOf number shape) h st = ap (λ (p : Part). step p st) (var_is number h.var h.numbered ∙ ap (VarOf number) h.shapes)
-  is_back (MapOf number keys shape) h st = ap (λ (p : Part). step p st) (map_is number (kind_of_shape shape) keys h ∙ shape_part number keys shape)
-  is_back (AggOf number keys) h st = ap (λ (p : Part). step p st) (map_is number h.kind keys h.map ∙ summed_part number keys h.kind h.summed)
+  is_back : (p : TreePart) → Fits k p → (st : Stack) → step (part_by k (word_of (titles_of k) p)) st ≡ step p st
+  is_back (FieldOf f shape) h st = ap (λ (p : TreePart). step p st) (ap field_part h.0 ∙ ap (λ (o : Option Shape). FieldOf f (unwrap_or o Int)) h.1)
+  is_back (VarOf number shape) h st = ap (λ (p : TreePart). step p st) (var_is number h.var h.numbered ∙ ap (VarOf number) h.shapes)
+  is_back (MapOf number keys shape) h st = ap (λ (p : TreePart). step p st) (map_is number (kind_of_shape shape) keys h ∙ shape_part number keys shape)
+  is_back (AggOf number keys) h st = ap (λ (p : TreePart). step p st) (map_is number h.kind keys h.map ∙ summed_part number keys h.kind h.summed)
   is_back (Gathered number keys kind counts) h st =
       ap (λ n. step (Gathered n (keys_of (decl_in (title k.names number) k.decided)) kind (is_count kind)) st) (map_number number h.0.name h.0.named)
       ∙ (ap (λ (l : List Shape). step (Gathered number l kind (is_count kind)) st) (map_keys number (Aggs kind) keys h.0)
@@ -147,11 +147,11 @@ module _ (k : Known) (apart : AreApart k) where
   is_back (Deleted number keys) h st =
       ap (λ n. step (Deleted n (keys_of (decl_in (title k.names number) k.decided))) st) (map_number number h.map.name h.map.named)
       ∙ ap (λ (l : List Shape). step (Deleted number l) st) (map_keys number h.kind keys h.map)
-  is_back (Printed number shapes) h st = ap (λ (p : Part). step p st) (call_is number h.call shapes h.numbered)
+  is_back (Printed number shapes) h st = ap (λ (p : TreePart). step p st) (call_is number h.call shapes h.numbered)
   is_back (Shown number top div) h st = ap (λ n. step (Shown n top div) st) (map_number number h.0.name h.0.named)
   is_back (Cleared number) h st = ap (λ n. step (Cleared n) st) (map_number number h.name h.named)
   is_back (Zeroed number) h st = ap (λ n. step (Zeroed n) st) (map_number number h.name h.named)
-  is_back (Numeric b) h st = ap (λ (p : Part). step p st) (numeric b k)
+  is_back (Numeric b) h st = ap (λ (p : TreePart). step p st) (numeric b k)
   is_back (Jumped jump inside) h st = refl
   is_back (Unrolled turns line) h st = refl
   is_back (Constant number) h st = refl
@@ -170,10 +170,10 @@ module _ (k : Known) (apart : AreApart k) where
   is_back NoOtherwise h st = refl
   is_back Ending h st = refl
 
-  abbrev pub parts_by : List Word → List Part
+  abbrev pub parts_by : List Word → List TreePart
   parts_by words = map (part_by k) words
 
-  pub words_read : (ps : List Part) → AllFit k ps → (st : Stack) → run (parts_by (words_by (titles_of k) ps)) st ≡ run ps st
+  pub words_read : (ps : List TreePart) → AllFit k ps → (st : Stack) → run (parts_by (words_by (titles_of k) ps)) st ≡ run ps st
   words_read [] h st = refl
   words_read (p ∷ ps) h st =
       ap (step (part_by k (word_of (titles_of k) p))) (words_read ps h.1 st) ∙ is_back p h.0 (run ps st)

@@ -28,7 +28,7 @@ use Rattle.typed_tree.specs.declared.expr.NumExpr.{NumExpr, roll-NumExpr, map-Nu
 use Rattle.typed_tree.specs.declared.expr.StrExpr.{StrExpr, roll-StrExpr, map-StrExpr, fold-roll-StrExpr, ind-StrExpr}
 use Rattle.typed_tree.specs.declared.expr.AnyExpr.{ind-AnyExpr}
 use Rattle.typed_tree.specs.Parts as tree
-use Rattle.typed_tree.specs.Parts.{Made, Part, made_of, num_parts, str_parts, parts_in, key_shapes, keyed_parts}
+use Rattle.typed_tree.specs.Parts.{Made, TreePart, made_of, num_parts, str_parts, parts_in, key_shapes, keyed_parts}
 use Rattle.typed_tree.specs.Scope.{fits, all_fit, is_declared, is_summed, decl_of, kind_of_shape}
 use Rattle.walk_meaning.specs.declared.flow.Frame.{Frame}
 use Rattle.walk_meaning.specs.declared.view.View.{View}
@@ -162,7 +162,7 @@ module _ (v : View) (setting : Setting) (served : IsServed v setting) (fine : It
   abbrev firsts : List ManyAny → List AnyExpr
   firsts ks = map (λ (k : ManyAny). k.0) ks
 
-  pub split : (a b : List Part) → Fits v (a ++ b) → Fits v a × Fits v b
+  pub split : (a b : List TreePart) → Fits v (a ++ b) → Fits v a × Fits v b
   split a b h = let p = and_parts (all_fit (scope_in v) a) (all_fit (scope_in v) b) (sym (list_all-append (fits (scope_in v)) a b) ∙ h) in (p.0, p.1)
 
   gathered-good : (ks : List ManyAny) (hs : List Shape) (vs : List Value) → HasShape hs vs → Fits v (parts_in (map made_of (firsts ks))) → Does_good (HasShape (hs ++ key_shapes (map made_of (firsts ks)))) (gathered vs (map value_does (firsts ks)))
@@ -209,7 +209,7 @@ module _ (v : View) (setting : Setting) (served : IsServed v setting) (fine : It
   abbrev num_of : NumExpr-F ManyAny ManyNum ManyStr → NumExpr-F AnyExpr NumExpr StrExpr
   num_of h = map-NumExpr ManyAny ManyNum ManyStr AnyExpr NumExpr StrExpr (λ k. k.0) (λ k. k.0) (λ k. k.0) h
 
-  num_case : (h : NumExpr-F ManyAny ManyNum ManyStr) → Fits v (tree.num_layer (map-NumExpr AnyExpr NumExpr StrExpr Made (List Part) (List Part) made_of num_parts str_parts (num_of h))) →
+  num_case : (h : NumExpr-F ManyAny ManyNum ManyStr) → Fits v (tree.num_layer (map-NumExpr AnyExpr NumExpr StrExpr Made (List TreePart) (List TreePart) made_of num_parts str_parts (num_of h))) →
       Does_good Free (number_by_parts (map-NumExpr AnyExpr NumExpr StrExpr (Does Value) (Does ℤ) (Does (List ℕ)) value_does number_does text_does (num_of h)))
   num_case (NumExpr-F.Number n) fit = given-good setting fine (scene_in v) Free n tt
   num_case (NumExpr-F.Builtin b) fit = looked_at-good setting fine (scene_in v) _
@@ -240,7 +240,7 @@ module _ (v : View) (setting : Setting) (served : IsServed v setting) (fine : It
   abbrev str_of : StrExpr-F ManyAny ManyNum ManyStr → StrExpr-F AnyExpr NumExpr StrExpr
   str_of h = map-StrExpr ManyAny ManyNum ManyStr AnyExpr NumExpr StrExpr (λ k. k.0) (λ k. k.0) (λ k. k.0) h
 
-  str_case : (h : StrExpr-F ManyAny ManyNum ManyStr) → Fits v (tree.str_layer (map-StrExpr AnyExpr NumExpr StrExpr Made (List Part) (List Part) made_of num_parts str_parts (str_of h))) →
+  str_case : (h : StrExpr-F ManyAny ManyNum ManyStr) → Fits v (tree.str_layer (map-StrExpr AnyExpr NumExpr StrExpr Made (List TreePart) (List TreePart) made_of num_parts str_parts (str_of h))) →
       Does_good Free (text_by_parts (map-StrExpr AnyExpr NumExpr StrExpr (Does Value) (Does ℤ) (Does (List ℕ)) value_does number_does text_does (str_of h)))
   str_case (StrExpr-F.Text s) fit = given-good setting fine (scene_in v) Free s tt
   str_case StrExpr-F.Comm fit = looked_at-good setting fine (scene_in v) _
@@ -255,8 +255,8 @@ module _ (v : View) (setting : Setting) (served : IsServed v setting) (fine : It
   abbrev any_of : AnyExpr-F ManyAny ManyNum ManyStr → AnyExpr-F AnyExpr NumExpr StrExpr
   any_of h = map-AnyExpr ManyAny ManyNum ManyStr AnyExpr NumExpr StrExpr (λ k. k.0) (λ k. k.0) (λ k. k.0) h
 
-  any_case : (h : AnyExpr-F ManyAny ManyNum ManyStr) → Fits v (tree.any_layer (map-AnyExpr AnyExpr NumExpr StrExpr Made (List Part) (List Part) made_of num_parts str_parts (any_of h))).parts →
-      Does_good (IsOfShape (tree.any_layer (map-AnyExpr AnyExpr NumExpr StrExpr Made (List Part) (List Part) made_of num_parts str_parts (any_of h))).shape)
+  any_case : (h : AnyExpr-F ManyAny ManyNum ManyStr) → Fits v (tree.any_layer (map-AnyExpr AnyExpr NumExpr StrExpr Made (List TreePart) (List TreePart) made_of num_parts str_parts (any_of h))).parts →
+      Does_good (IsOfShape (tree.any_layer (map-AnyExpr AnyExpr NumExpr StrExpr Made (List TreePart) (List TreePart) made_of num_parts str_parts (any_of h))).shape)
       (value_by_parts (map-AnyExpr AnyExpr NumExpr StrExpr (Does Value) (Does ℤ) (Does (List ℕ)) value_does number_does text_does (any_of h)))
   any_case (AnyExpr-F.Num d) fit = bind-good setting fine (scene_in v) Free (IsOfShape shapes.Int) (number_does d.0) (λ n. given (Int n)) (d.1 fit) (λ n h. given-good setting fine (scene_in v) (IsOfShape shapes.Int) (Int n) tt)
   any_case (AnyExpr-F.Str d) fit = bind-good setting fine (scene_in v) Free (IsOfShape shapes.Str) (text_does d.0) (λ s. given (Str s)) (d.1 fit) (λ s h. given-good setting fine (scene_in v) (IsOfShape shapes.Str) (Str s) tt)
@@ -264,12 +264,12 @@ module _ (v : View) (setting : Setting) (served : IsServed v setting) (fine : It
   num_step : (x : NumExpr-F AnyExpr NumExpr StrExpr) (h : NumExpr-F ManyAny ManyNum ManyStr) → num_of h ≡ x → NumGood (roll-NumExpr x)
   num_step x h e = subst (λ (y : NumExpr-F AnyExpr NumExpr StrExpr). NumGood (roll-NumExpr y)) e (λ fit.
       subst (λ (d : Does ℤ). Does_good Free d) (sym (fold-roll-NumExpr (Does Value) (Does ℤ) (Does (List ℕ)) value_by_parts number_by_parts text_by_parts (num_of h)))
-      (num_case h (subst (λ (l : List Part). Fits v l) (fold-roll-NumExpr Made (List Part) (List Part) tree.any_layer tree.num_layer tree.str_layer (num_of h)) fit)))
+      (num_case h (subst (λ (l : List TreePart). Fits v l) (fold-roll-NumExpr Made (List TreePart) (List TreePart) tree.any_layer tree.num_layer tree.str_layer (num_of h)) fit)))
 
   str_step : (x : StrExpr-F AnyExpr NumExpr StrExpr) (h : StrExpr-F ManyAny ManyNum ManyStr) → str_of h ≡ x → StrGood (roll-StrExpr x)
   str_step x h e = subst (λ (y : StrExpr-F AnyExpr NumExpr StrExpr). StrGood (roll-StrExpr y)) e (λ fit.
       subst (λ (d : Does (List ℕ)). Does_good Free d) (sym (fold-roll-StrExpr (Does Value) (Does ℤ) (Does (List ℕ)) value_by_parts number_by_parts text_by_parts (str_of h)))
-      (str_case h (subst (λ (l : List Part). Fits v l) (fold-roll-StrExpr Made (List Part) (List Part) tree.any_layer tree.num_layer tree.str_layer (str_of h)) fit)))
+      (str_case h (subst (λ (l : List TreePart). Fits v l) (fold-roll-StrExpr Made (List TreePart) (List TreePart) tree.any_layer tree.num_layer tree.str_layer (str_of h)) fit)))
 
   abbrev AnyWith : Made → Does Value → Type 0
   AnyWith made d = Fits v made.parts → Does_good (IsOfShape made.shape) d
@@ -277,7 +277,7 @@ module _ (v : View) (setting : Setting) (served : IsServed v setting) (fine : It
   any_step : (x : AnyExpr-F AnyExpr NumExpr StrExpr) (h : AnyExpr-F ManyAny ManyNum ManyStr) → any_of h ≡ x → AnyGood (roll-AnyExpr x)
   any_step x h e = subst (λ (y : AnyExpr-F AnyExpr NumExpr StrExpr). AnyGood (roll-AnyExpr y)) e
       (subst (λ (d : Does Value). AnyWith (made_of (roll-AnyExpr (any_of h))) d) (sym (fold-roll-AnyExpr (Does Value) (Does ℤ) (Does (List ℕ)) value_by_parts number_by_parts text_by_parts (any_of h)))
-      (subst (λ (m : Made). AnyWith m (value_by_parts (map-AnyExpr AnyExpr NumExpr StrExpr (Does Value) (Does ℤ) (Does (List ℕ)) value_does number_does text_does (any_of h)))) (sym (fold-roll-AnyExpr Made (List Part) (List Part) tree.any_layer tree.num_layer tree.str_layer (any_of h))) (any_case h)))
+      (subst (λ (m : Made). AnyWith m (value_by_parts (map-AnyExpr AnyExpr NumExpr StrExpr (Does Value) (Does ℤ) (Does (List ℕ)) value_does number_does text_does (any_of h)))) (sym (fold-roll-AnyExpr Made (List TreePart) (List TreePart) tree.any_layer tree.num_layer tree.str_layer (any_of h))) (any_case h)))
 
   pub num_good : (e : NumExpr) → NumGood e
   num_good e = ind-NumExpr AnyGood NumGood StrGood any_step num_step str_step e

@@ -29,7 +29,7 @@ use Rattle.typed_tree.specs.declared.stmt.TypedStmt.{TypedStmt, roll-TypedStmt, 
 use Rattle.typed_tree.specs.declared.stmt.TypedStmt.TheOpen.{TypedStmt-F, TypedBlock-F}
 use Rattle.typed_tree.specs.declared.stmt.TypedStmt.TheShapes.{former-TypedStmt-If-0-at-2}
 use Rattle.typed_tree.specs.Parts as tree
-use Rattle.typed_tree.specs.Parts.{Part, made_of, num_parts, parts_in, key_shapes, stmt_parts, block_parts, arm_parts, otherwise_parts, joined, number_parts, Ending, Otherwise}
+use Rattle.typed_tree.specs.Parts.{TreePart, made_of, num_parts, parts_in, key_shapes, stmt_parts, block_parts, arm_parts, otherwise_parts, joined, number_parts, Ending, Otherwise}
 use Rattle.typed_tree.specs.declared.body.TypedBody.{TypedBody}
 use Rattle.typed_tree.specs.Bodies.{predicate_parts}
 use Rattle.typed_tree.specs.Scope.{fits, all_fit, is_there, decl_of, format_of, takes, may_print}
@@ -74,10 +74,10 @@ module _ (v : View) (setting : Setting) (served : IsServed v setting) (fine : It
   abbrev Fine : {A : Type 0} → (A → Type 0) → Interaction A → Type 0
   Fine holds t = AdmitsOf (IsFineCall setting fine) setting.maps holds t
 
-  tail : (p : Part) (ps : List Part) → Fits v (p ∷ ps) → Fits v ps
+  tail : (p : TreePart) (ps : List TreePart) → Fits v (p ∷ ps) → Fits v ps
   tail p ps h = (and_parts (fits (scope_in v) p) (all_fit (scope_in v) ps) h).1
 
-  halves : (a b : List Part) → Fits v (a ++ b) → Fits v a × Fits v b
+  halves : (a b : List TreePart) → Fits v (a ++ b) → Fits v a × Fits v b
   halves a b h = split v setting served fine a b h
 
   flow-good : (flow : Flow) → Does_good Free (given flow)
@@ -181,18 +181,18 @@ module _ (v : View) (setting : Setting) (served : IsServed v setting) (fine : It
   abbrev ManyBlock : Type 0
   ManyBlock = (b : TypedBlock) × BlockGood b
 
-  stmts-good : (ss : List ManyStmt) (inside : Bool) → Fits v (joined (map (λ (k : Bool → List Part). k inside) (map stmt_parts (map (λ (k : ManyStmt). k.0) ss)))) → Does_good Free (in_sequence (map stmt_does (map (λ (k : ManyStmt). k.0) ss)))
+  stmts-good : (ss : List ManyStmt) (inside : Bool) → Fits v (joined (map (λ (k : Bool → List TreePart). k inside) (map stmt_parts (map (λ (k : ManyStmt). k.0) ss)))) → Does_good Free (in_sequence (map stmt_does (map (λ (k : ManyStmt). k.0) ss)))
   stmts-good [] inside fit = flow-good Next
   stmts-good (s ∷ ss) inside fit =
-      let p = halves (stmt_parts s.0 inside) (joined (map (λ (k : Bool → List Part). k inside) (map stmt_parts (map (λ (k : ManyStmt). k.0) ss)))) fit in
+      let p = halves (stmt_parts s.0 inside) (joined (map (λ (k : Bool → List TreePart). k inside) (map stmt_parts (map (λ (k : ManyStmt). k.0) ss)))) fit in
       bind-good setting fine (scene_in v) Free Free (stmt_does s.0) (λ flow. if_next flow (in_sequence (map stmt_does (map (λ (k : ManyStmt). k.0) ss)))) (s.1 inside p.0)
       (λ flow h. if_next-good flow (in_sequence (map stmt_does (map (λ (k : ManyStmt). k.0) ss))) (stmts-good ss inside p.1))
 
   abbrev blocks_of : List (NumExpr × ManyBlock) → List (NumExpr × TypedBlock)
   blocks_of arms = map (former-TypedStmt-If-0-at-2.map ManyBlock TypedBlock (λ k. k.0)) arms
 
-  abbrev arms_made : Bool → List (NumExpr × ManyBlock) → List Part
-  arms_made inside arms = joined (map (λ (arm : NumExpr × (Bool → List Part)). arm_parts (arm.0, arm.1 inside)) (map (former-TypedStmt-If-0-at-2.map TypedBlock (Bool → List Part) block_parts) (blocks_of arms)))
+  abbrev arms_made : Bool → List (NumExpr × ManyBlock) → List TreePart
+  arms_made inside arms = joined (map (λ (arm : NumExpr × (Bool → List TreePart)). arm_parts (arm.0, arm.1 inside)) (map (former-TypedStmt-If-0-at-2.map TypedBlock (Bool → List TreePart) block_parts) (blocks_of arms)))
 
   arms-good : (arms : List (NumExpr × ManyBlock)) (inside : Bool) (otherwise : Does Flow) → Fits v (arms_made inside arms) → Does_good Free otherwise →
       Does_good Free (first_arm (map arm_does (map (former-TypedStmt-If-0-at-2.map TypedBlock (Does Flow) block_does) (blocks_of arms))) otherwise)
@@ -212,7 +212,7 @@ module _ (v : View) (setting : Setting) (served : IsServed v setting) (fine : It
   abbrev Keyed : List AnyExpr → List Value → Type 0
   Keyed keys = HasShape (key_shapes (map made_of keys))
 
-  stmt_case : (h : TypedStmt-F ManyStmt ManyBlock) (inside : Bool) → Fits v (tree.stmt_layer (map-TypedStmt TypedStmt TypedBlock (Bool → List Part) (Bool → List Part) stmt_parts block_parts (stmt_of h)) inside) →
+  stmt_case : (h : TypedStmt-F ManyStmt ManyBlock) (inside : Bool) → Fits v (tree.stmt_layer (map-TypedStmt TypedStmt TypedBlock (Bool → List TreePart) (Bool → List TreePart) stmt_parts block_parts (stmt_of h)) inside) →
       Does_good Free (stmt_by_parts (map-TypedStmt TypedStmt TypedBlock (Does Flow) (Does Flow) stmt_does block_does (stmt_of h)))
   stmt_case (TypedStmt-F.SetVar var value) inside fit =
       bind-good setting fine (scene_in v) (IsOfShape (made_of value).shape) Free (value_does value) _ (any_good v setting served fine value (tail (tree.VarOf var (made_of value).shape) (made_of value).parts fit)) (λ x h. plain-good (changed _) (changed-good setting fine (scene_in v) _))
@@ -270,7 +270,7 @@ module _ (v : View) (setting : Setting) (served : IsServed v setting) (fine : It
   stmt_step : (x : TypedStmt-F TypedStmt TypedBlock) (h : TypedStmt-F ManyStmt ManyBlock) → stmt_of h ≡ x → StmtGood (roll-TypedStmt x)
   stmt_step x h e = subst (λ (y : TypedStmt-F TypedStmt TypedBlock). StmtGood (roll-TypedStmt y)) e (λ inside fit.
       subst (λ (d : Does Flow). Does_good Free d) (sym (fold-roll-TypedStmt (Does Flow) (Does Flow) stmt_by_parts block_by_parts (stmt_of h)))
-      (stmt_case h inside (subst (λ (k : Bool → List Part). Fits v (k inside)) (fold-roll-TypedStmt (Bool → List Part) (Bool → List Part) tree.stmt_layer tree.block_layer (stmt_of h)) fit)))
+      (stmt_case h inside (subst (λ (k : Bool → List TreePart). Fits v (k inside)) (fold-roll-TypedStmt (Bool → List TreePart) (Bool → List TreePart) tree.stmt_layer tree.block_layer (stmt_of h)) fit)))
 
   abbrev block_of : TypedBlock-F ManyStmt ManyBlock → TypedBlock-F TypedStmt TypedBlock
   block_of h = map-TypedBlock ManyStmt ManyBlock TypedStmt TypedBlock (λ k. k.0) (λ k. k.0) h
@@ -278,7 +278,7 @@ module _ (v : View) (setting : Setting) (served : IsServed v setting) (fine : It
   block_step : (x : TypedBlock-F TypedStmt TypedBlock) (h : TypedBlock-F ManyStmt ManyBlock) → block_of h ≡ x → BlockGood (roll-TypedBlock x)
   block_step x h e = subst (λ (y : TypedBlock-F TypedStmt TypedBlock). BlockGood (roll-TypedBlock y)) e (λ inside fit.
       subst (λ (d : Does Flow). Does_good Free d) (sym (fold-roll-TypedBlock (Does Flow) (Does Flow) stmt_by_parts block_by_parts (block_of h)))
-      (stmts-good h.stmts inside (halves (joined (map (λ (k : Bool → List Part). k inside) (map stmt_parts (map (λ (k : ManyStmt). k.0) h.stmts)))) (Ending ∷ []) (subst (λ (k : Bool → List Part). Fits v (k inside)) (fold-roll-TypedBlock (Bool → List Part) (Bool → List Part) tree.stmt_layer tree.block_layer (block_of h)) fit)).0))
+      (stmts-good h.stmts inside (halves (joined (map (λ (k : Bool → List TreePart). k inside) (map stmt_parts (map (λ (k : ManyStmt). k.0) h.stmts)))) (Ending ∷ []) (subst (λ (k : Bool → List TreePart). Fits v (k inside)) (fold-roll-TypedBlock (Bool → List TreePart) (Bool → List TreePart) tree.stmt_layer tree.block_layer (block_of h)) fit)).0))
 
   pub block_good : (b : TypedBlock) → BlockGood b
   block_good b = ind-TypedBlock StmtGood BlockGood stmt_step block_step b

@@ -22,13 +22,13 @@ use Rattle.bt_core.specs.declared.value.Value.{Value}
 use Rattle.bt_core.specs.declared.value.Value.TheVariants.{Int, Str}
 use Rattle.bt_core.specs.Interaction.{Interaction, Ended, Call}
 use Rattle.map_rows.specs.Merged.{agg_rows, rows_in, merged_rows}
-use Rattle.map_rows.specs.UnderKey.{number_under as number_in}
+use Rattle.map_rows.specs.UnderKey.{number_asked as number_in}
 use Rattle.typed_tree.specs.declared.expr.AnyExpr.{AnyExpr, roll-AnyExpr, map-AnyExpr, fold-roll-AnyExpr, ind-AnyExpr}
 use Rattle.typed_tree.specs.declared.expr.AnyExpr.TheOpen.{NumExpr-F, StrExpr-F, AnyExpr-F}
 use Rattle.typed_tree.specs.declared.expr.NumExpr.{NumExpr, roll-NumExpr, map-NumExpr, fold-roll-NumExpr, ind-NumExpr}
 use Rattle.typed_tree.specs.declared.expr.StrExpr.{StrExpr, roll-StrExpr, map-StrExpr, fold-roll-StrExpr}
 use Rattle.typed_tree.specs.Parts as tree
-use Rattle.typed_tree.specs.Parts.{Made, Part, made_of, num_parts, str_parts, parts_in, key_shapes, keyed_parts}
+use Rattle.typed_tree.specs.Parts.{Made, TreePart, made_of, num_parts, str_parts, parts_in, key_shapes, keyed_parts}
 use Rattle.typed_tree.specs.Scope.{fits, all_fit, is_declared, is_summed, is_there, decl_of, kind_of_shape}
 use Rattle.walk_meaning.specs.declared.flow.Frame.{Frame}
 use Rattle.map_ops.specs.declared.sweep.Sweep.TheVariants.{Read}
@@ -39,7 +39,7 @@ use Rattle.map_ops.specs.Values.{number_of, text_of, value_of, next}
 use Rattle.walk_meaning.specs.Maps.{number_variable, text_variable, get, set, kind_in_body, sum_at}
 use Rattle.map_ops.specs.Asking.{asked_from, swept, summed}
 use Rattle.map_ops.specs.Holders.{part, holder, holders, sweep_op}
-use Rattle.walk_meaning.specs.Reading.{Reader, number_under, text_under, stepped_under, summed_by, summed_under, num_by, str_by, value_by, number_by, text_by}
+use Rattle.walk_meaning.specs.Reading.{Reader, number_asked, text_under, stepped_under, summed_by, summed_under, num_by, str_by, value_by, number_by, text_by}
 use Rattle.bt_core.specs.Same.{SameTo}
 use Rattle.walk_meaning.specs.Served.{Fits, scene_in, scope_in}
 use Rattle.typed_tree.proofs.Summed.{summed_there}
@@ -129,7 +129,7 @@ module _ (comes : Call → Reply → Type 0) (reader : Reader) (v : View) (reads
   abbrev firsts : List ManyAny → List AnyExpr
   firsts ks = map (λ (k : ManyAny). k.0) ks
 
-  pub halves : (a b : List Part) → Fits v (a ++ b) → Fits v a × Fits v b
+  pub halves : (a b : List TreePart) → Fits v (a ++ b) → Fits v a × Fits v b
   halves a b h = let p = and_parts (all_fit (scope_in v) a) (all_fit (scope_in v) b) (sym (list_all-append (fits (scope_in v)) a b) ∙ h) in (p.0, p.1)
 
   gathered-same : (ks : List ManyAny) (vs : List Value) → Fits v (parts_in (map made_of (firsts ks))) → Same (gathered vs (map (value_by reader) (firsts ks))) (gathered vs (map value_does (firsts ks)))
@@ -145,7 +145,7 @@ module _ (comes : Call → Reply → Type 0) (reader : Reader) (v : View) (reads
   abbrev Declares : MapId → List Shape → Shape → Type 0
   Declares m keys h = IsTrue (is_declared (decl_of m.0 v.body.now.maps) (kind_of_shape h) keys)
 
-  pub number-tied : (m : MapId) (keys : List Shape) (key : List Value) → Declares m keys shapes.Int → Tied comes (scene_in v) (λ (n : ℤ) (value : Value). n ≡ number_of value) (number_under reader m key) (get m key)
+  pub number-tied : (m : MapId) (keys : List Shape) (key : List Value) → Declares m keys shapes.Int → Tied comes (scene_in v) (λ (n : ℤ) (value : Value). n ≡ number_of value) (number_asked reader m key) (get m key)
   unfolding lifted
   number-tied m keys key d frame = (refl, λ reply h. (reads.numbers m keys key reply d h, refl))
 
@@ -164,7 +164,7 @@ module _ (comes : Call → Reply → Type 0) (reader : Reader) (v : View) (reads
 
   step-same : (m : MapId) (keys : List Shape) (plus prefix : Bool) (key : List Value) → Declares m keys shapes.Int → Same (stepped_under reader m plus prefix key) (step_at m key plus prefix)
   step-same m keys plus prefix key d =
-      bind-tied comes (scene_in v) (λ (n : ℤ) (value : Value). n ≡ number_of value) (λ (a b : ℤ). a ≡ b) (number_under reader m key) (get m key) _ _ (number-tied m keys key d)
+      bind-tied comes (scene_in v) (λ (n : ℤ) (value : Value). n ≡ number_of value) (λ (a b : ℤ). a ≡ b) (number_asked reader m key) (get m key) _ _ (number-tied m keys key d)
       (λ n value h. subst (λ (x : ℤ). Same (then (set m key (Int (next plus n))) (given (cond prefix (next plus n) n))) (then (set m key (Int (next plus x))) (given (cond prefix (next plus x) x)))) h (self-tied comes (scene_in v) (then (set m key (Int (next plus n))) (given (cond prefix (next plus n) n)))))
 
   -- ---- the rows of a map
@@ -228,7 +228,7 @@ module _ (comes : Call → Reply → Type 0) (reader : Reader) (v : View) (reads
   abbrev num_of : NumExpr-F ManyAny ManyNum ManyStr → NumExpr-F AnyExpr NumExpr StrExpr
   num_of h = map-NumExpr ManyAny ManyNum ManyStr AnyExpr NumExpr StrExpr (λ k. k.0) (λ k. k.0) (λ k. k.0) h
 
-  num_case : (h : NumExpr-F ManyAny ManyNum ManyStr) → Fits v (tree.num_layer (map-NumExpr AnyExpr NumExpr StrExpr Made (List Part) (List Part) made_of num_parts str_parts (num_of h))) →
+  num_case : (h : NumExpr-F ManyAny ManyNum ManyStr) → Fits v (tree.num_layer (map-NumExpr AnyExpr NumExpr StrExpr Made (List TreePart) (List TreePart) made_of num_parts str_parts (num_of h))) →
       Same (num_by reader (map-NumExpr AnyExpr NumExpr StrExpr (Does Value) (Does ℤ) (Does (List ℕ)) (value_by reader) (number_by reader) (text_by reader) (num_of h)))
       (number_by_parts (map-NumExpr AnyExpr NumExpr StrExpr (Does Value) (Does ℤ) (Does (List ℕ)) value_does number_does text_does (num_of h)))
   num_case (NumExpr-F.Number n) fit = self-tied comes (scene_in v) (given n)
@@ -237,8 +237,8 @@ module _ (comes : Call → Reply → Type 0) (reader : Reader) (v : View) (reads
   num_case (NumExpr-F.NumExpr::Var n) fit = self-tied comes (scene_in v) (number_variable n)
   num_case (NumExpr-F.NumExpr::Map m ks) fit =
       let p = map_fits m ks shapes.Int fit in
-      mapped-tied comes (scene_in v) (λ (n : ℤ) (value : Value). n ≡ number_of value) (bind (in_order (map (value_by reader) (firsts ks))) (number_under reader m)) (read m (map value_does (firsts ks))) number_of
-      (under-tied (λ (n : ℤ) (value : Value). n ≡ number_of value) m ks (number_under reader m) p.1 (λ key. number-tied m _ key p.0)) (λ n value h. h)
+      mapped-tied comes (scene_in v) (λ (n : ℤ) (value : Value). n ≡ number_of value) (bind (in_order (map (value_by reader) (firsts ks))) (number_asked reader m)) (read m (map value_does (firsts ks))) number_of
+      (under-tied (λ (n : ℤ) (value : Value). n ≡ number_of value) m ks (number_asked reader m) p.1 (λ key. number-tied m _ key p.0)) (λ n value h. h)
   num_case (NumExpr-F.Agg m ks) fit =
       let p = agg_head v m (map made_of (firsts ks)) fit in
       bind-same comes (scene_in v) (λ (a b : ℤ). a ≡ b) (in_order (map (value_by reader) (firsts ks))) (in_order (map value_does (firsts ks))) (summed_under reader m) (λ key. sum_at m key) (values-same ks p.1)
@@ -265,7 +265,7 @@ module _ (comes : Call → Reply → Type 0) (reader : Reader) (v : View) (reads
   abbrev str_of : StrExpr-F ManyAny ManyNum ManyStr → StrExpr-F AnyExpr NumExpr StrExpr
   str_of h = map-StrExpr ManyAny ManyNum ManyStr AnyExpr NumExpr StrExpr (λ k. k.0) (λ k. k.0) (λ k. k.0) h
 
-  str_case : (h : StrExpr-F ManyAny ManyNum ManyStr) → Fits v (tree.str_layer (map-StrExpr AnyExpr NumExpr StrExpr Made (List Part) (List Part) made_of num_parts str_parts (str_of h))) →
+  str_case : (h : StrExpr-F ManyAny ManyNum ManyStr) → Fits v (tree.str_layer (map-StrExpr AnyExpr NumExpr StrExpr Made (List TreePart) (List TreePart) made_of num_parts str_parts (str_of h))) →
       Same (str_by reader (map-StrExpr AnyExpr NumExpr StrExpr (Does Value) (Does ℤ) (Does (List ℕ)) (value_by reader) (number_by reader) (text_by reader) (str_of h)))
       (text_by_parts (map-StrExpr AnyExpr NumExpr StrExpr (Does Value) (Does ℤ) (Does (List ℕ)) value_does number_does text_does (str_of h)))
   str_case (StrExpr-F.Text s) fit = self-tied comes (scene_in v) (given s)
@@ -284,7 +284,7 @@ module _ (comes : Call → Reply → Type 0) (reader : Reader) (v : View) (reads
   abbrev any_of : AnyExpr-F ManyAny ManyNum ManyStr → AnyExpr-F AnyExpr NumExpr StrExpr
   any_of h = map-AnyExpr ManyAny ManyNum ManyStr AnyExpr NumExpr StrExpr (λ k. k.0) (λ k. k.0) (λ k. k.0) h
 
-  any_case : (h : AnyExpr-F ManyAny ManyNum ManyStr) → Fits v (tree.any_layer (map-AnyExpr AnyExpr NumExpr StrExpr Made (List Part) (List Part) made_of num_parts str_parts (any_of h))).parts →
+  any_case : (h : AnyExpr-F ManyAny ManyNum ManyStr) → Fits v (tree.any_layer (map-AnyExpr AnyExpr NumExpr StrExpr Made (List TreePart) (List TreePart) made_of num_parts str_parts (any_of h))).parts →
       Same (value_by_parts (map-AnyExpr AnyExpr NumExpr StrExpr (Does Value) (Does ℤ) (Does (List ℕ)) (value_by reader) (number_by reader) (text_by reader) (any_of h)))
       (value_by_parts (map-AnyExpr AnyExpr NumExpr StrExpr (Does Value) (Does ℤ) (Does (List ℕ)) value_does number_does text_does (any_of h)))
   any_case (AnyExpr-F.Num d) fit = first-same comes (scene_in v) (number_by reader d.0) (number_does d.0) (λ n. given (Int n)) (d.1 fit)
@@ -295,21 +295,21 @@ module _ (comes : Call → Reply → Type 0) (reader : Reader) (v : View) (reads
       subst (λ (d : Does ℤ). Same d (number_does (roll-NumExpr (num_of h)))) (sym (fold-roll-NumExpr (Does Value) (Does ℤ) (Does (List ℕ)) value_by_parts (num_by reader) (str_by reader) (num_of h)))
       (subst (λ (d : Does ℤ). Same (num_by reader (map-NumExpr AnyExpr NumExpr StrExpr (Does Value) (Does ℤ) (Does (List ℕ)) (value_by reader) (number_by reader) (text_by reader) (num_of h))) d)
       (sym (fold-roll-NumExpr (Does Value) (Does ℤ) (Does (List ℕ)) value_by_parts number_by_parts text_by_parts (num_of h)))
-      (num_case h (subst (λ (l : List Part). Fits v l) (fold-roll-NumExpr Made (List Part) (List Part) tree.any_layer tree.num_layer tree.str_layer (num_of h)) fit))))
+      (num_case h (subst (λ (l : List TreePart). Fits v l) (fold-roll-NumExpr Made (List TreePart) (List TreePart) tree.any_layer tree.num_layer tree.str_layer (num_of h)) fit))))
 
   str_step : (x : StrExpr-F AnyExpr NumExpr StrExpr) (h : StrExpr-F ManyAny ManyNum ManyStr) → str_of h ≡ x → StrRead (roll-StrExpr x)
   str_step x h e = subst (λ (y : StrExpr-F AnyExpr NumExpr StrExpr). StrRead (roll-StrExpr y)) e (λ fit.
       subst (λ (d : Does (List ℕ)). Same d (text_does (roll-StrExpr (str_of h)))) (sym (fold-roll-StrExpr (Does Value) (Does ℤ) (Does (List ℕ)) value_by_parts (num_by reader) (str_by reader) (str_of h)))
       (subst (λ (d : Does (List ℕ)). Same (str_by reader (map-StrExpr AnyExpr NumExpr StrExpr (Does Value) (Does ℤ) (Does (List ℕ)) (value_by reader) (number_by reader) (text_by reader) (str_of h))) d)
       (sym (fold-roll-StrExpr (Does Value) (Does ℤ) (Does (List ℕ)) value_by_parts number_by_parts text_by_parts (str_of h)))
-      (str_case h (subst (λ (l : List Part). Fits v l) (fold-roll-StrExpr Made (List Part) (List Part) tree.any_layer tree.num_layer tree.str_layer (str_of h)) fit))))
+      (str_case h (subst (λ (l : List TreePart). Fits v l) (fold-roll-StrExpr Made (List TreePart) (List TreePart) tree.any_layer tree.num_layer tree.str_layer (str_of h)) fit))))
 
   any_step : (x : AnyExpr-F AnyExpr NumExpr StrExpr) (h : AnyExpr-F ManyAny ManyNum ManyStr) → any_of h ≡ x → AnyRead (roll-AnyExpr x)
   any_step x h e = subst (λ (y : AnyExpr-F AnyExpr NumExpr StrExpr). AnyRead (roll-AnyExpr y)) e (λ fit.
       subst (λ (d : Does Value). Same d (value_does (roll-AnyExpr (any_of h)))) (sym (fold-roll-AnyExpr (Does Value) (Does ℤ) (Does (List ℕ)) value_by_parts (num_by reader) (str_by reader) (any_of h)))
       (subst (λ (d : Does Value). Same (value_by_parts (map-AnyExpr AnyExpr NumExpr StrExpr (Does Value) (Does ℤ) (Does (List ℕ)) (value_by reader) (number_by reader) (text_by reader) (any_of h))) d)
       (sym (fold-roll-AnyExpr (Does Value) (Does ℤ) (Does (List ℕ)) value_by_parts number_by_parts text_by_parts (any_of h)))
-      (any_case h (subst (λ (m : Made). Fits v m.parts) (fold-roll-AnyExpr Made (List Part) (List Part) tree.any_layer tree.num_layer tree.str_layer (any_of h)) fit))))
+      (any_case h (subst (λ (m : Made). Fits v m.parts) (fold-roll-AnyExpr Made (List TreePart) (List TreePart) tree.any_layer tree.num_layer tree.str_layer (any_of h)) fit))))
 
   pub num_read : (e : NumExpr) → NumRead e
   num_read e = ind-NumExpr AnyRead NumRead StrRead any_step num_step str_step e

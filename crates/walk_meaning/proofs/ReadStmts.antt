@@ -28,7 +28,7 @@ use Rattle.typed_tree.specs.declared.stmt.TypedStmt.TheOpen.{TypedStmt-F, TypedB
 use Rattle.typed_tree.specs.declared.stmt.TypedStmt.TheShapes.{former-TypedStmt-If-0-at-2}
 use Rattle.typed_tree.specs.Bodies.{predicate_parts}
 use Rattle.typed_tree.specs.Parts as tree
-use Rattle.typed_tree.specs.Parts.{Part, made_of, num_parts, parts_in, key_shapes, stmt_parts, block_parts, arm_parts, otherwise_parts, joined, number_parts, Ending as Ends_block, Otherwise}
+use Rattle.typed_tree.specs.Parts.{TreePart, made_of, num_parts, parts_in, key_shapes, stmt_parts, block_parts, arm_parts, otherwise_parts, joined, number_parts, Ending as Ends_block, Otherwise}
 use Rattle.typed_tree.specs.Scope.{fits, all_fit, is_there, is_declared, decl_of}
 use Rattle.walk_meaning.specs.declared.flow.Flow.{Flow}
 use Rattle.walk_meaning.specs.declared.flow.Flow.TheVariants.{Next, Break, Continue, Stop}
@@ -40,7 +40,7 @@ use Rattle.walk_meaning.specs.Exprs.{value_does, values_do, number_does}
 use Rattle.map_ops.specs.Values.{number_of}
 use Rattle.walk_meaning.specs.Maps.{get, set, kind_in_body}
 use Rattle.map_ops.specs.Asking.{tells, swept, printed}
-use Rattle.walk_meaning.specs.Reading.{Reader, number_under, updated_under, value_by, values_by, number_by, number_or_one_by, printed_by, print_by, arm_by, stmt_by, block_by, guarded_by, tree_by, walk_by}
+use Rattle.walk_meaning.specs.Reading.{Reader, number_asked, updated_under, value_by, values_by, number_by, number_or_one_by, printed_by, print_by, arm_by, stmt_by, block_by, guarded_by, tree_by, walk_by}
 use Rattle.bt_core.specs.Same.{SameTo}
 use Rattle.walk_meaning.specs.Stmts.{plain, stmt_by_parts, block_by_parts, stmt_does, block_does, number_or_one, print, clear, zero_all, jump_to, cut, update_at, if_next, in_sequence, first_arm, arm_does, entered, turn, turns, tests, while_true, again}
 use Rattle.walk_meaning.specs.Walk.{walk, first_frame, guarded, tree_does}
@@ -62,10 +62,10 @@ module _ (comes : Call → Reply → Type 0) (reader : Reader) (v : View) (reads
   next-same : {A B : Type 0} (d e : Does A) (k l : A → Does B) → Same d e → ((a : A) → Same (k a) (l a)) → Same (bind d k) (bind e l)
   next-same {A} {B} d e k l p q = bind-same comes (scene_in v) (λ (a b : B). a ≡ b) d e k l p q
 
-  parts : (a b : List Part) → Fits v (a ++ b) → Fits v a × Fits v b
+  parts : (a b : List TreePart) → Fits v (a ++ b) → Fits v a × Fits v b
   parts a b h = halves comes reader v reads a b h
 
-  tail : (p : Part) (ps : List Part) → Fits v (p ∷ ps) → Fits v ps
+  tail : (p : TreePart) (ps : List TreePart) → Fits v (p ∷ ps) → Fits v ps
   tail p ps h = (and_parts (fits (scope_in v) p) (all_fit (scope_in v) ps) h).1
 
   pair : AnyExpr → (a : AnyExpr) × AnyRead comes reader v reads a
@@ -106,7 +106,7 @@ module _ (comes : Call → Reply → Type 0) (reader : Reader) (v : View) (reads
 
   update-same : (m : MapId) (keys : List Shape) (op : BinOp) (b : ℤ) (key : List Value) → IsTrue (is_declared (decl_of m.0 v.body.now.maps) Ints keys) → Same (updated_under reader m op b key) (update_at m key op b)
   update-same m keys op b key d =
-      bind-tied comes (scene_in v) (λ (n : ℤ) (value : Value). n ≡ number_of value) (λ (a b : Flow). a ≡ b) (number_under reader m key) (get m key) _ _ (number-tied comes reader v reads m keys key d)
+      bind-tied comes (scene_in v) (λ (n : ℤ) (value : Value). n ≡ number_of value) (λ (a b : Flow). a ≡ b) (number_asked reader m key) (get m key) _ _ (number-tied comes reader v reads m keys key d)
       (λ n value h. subst (λ (x : ℤ). Same (plain (set m key (Int (binary_value op n b)))) (plain (set m key (Int (binary_value op x b))))) h (self (plain (set m key (Int (binary_value op n b))))))
 
   -- ---- loops
@@ -172,18 +172,18 @@ module _ (comes : Call → Reply → Type 0) (reader : Reader) (v : View) (reads
   abbrev firsts : List ManyStmt → List TypedStmt
   firsts ss = map (λ (k : ManyStmt). k.0) ss
 
-  stmts-same : (ss : List ManyStmt) (inside : Bool) → Fits v (joined (map (λ (k : Bool → List Part). k inside) (map stmt_parts (firsts ss)))) → Same (in_sequence (map stmt_does_by (firsts ss))) (in_sequence (map stmt_does (firsts ss)))
+  stmts-same : (ss : List ManyStmt) (inside : Bool) → Fits v (joined (map (λ (k : Bool → List TreePart). k inside) (map stmt_parts (firsts ss)))) → Same (in_sequence (map stmt_does_by (firsts ss))) (in_sequence (map stmt_does (firsts ss)))
   stmts-same [] inside fit = self (given Next)
   stmts-same (s ∷ ss) inside fit =
-      let p = parts (stmt_parts s.0 inside) (joined (map (λ (k : Bool → List Part). k inside) (map stmt_parts (firsts ss)))) fit in
+      let p = parts (stmt_parts s.0 inside) (joined (map (λ (k : Bool → List TreePart). k inside) (map stmt_parts (firsts ss)))) fit in
       next-same (stmt_does_by s.0) (stmt_does s.0) (λ flow. if_next flow (in_sequence (map stmt_does_by (firsts ss)))) (λ flow. if_next flow (in_sequence (map stmt_does (firsts ss)))) (s.1 inside p.0)
       (λ flow. if_next-same flow (in_sequence (map stmt_does_by (firsts ss))) (in_sequence (map stmt_does (firsts ss))) (stmts-same ss inside p.1))
 
   abbrev blocks_of : List (NumExpr × ManyBlock) → List (NumExpr × TypedBlock)
   blocks_of arms = map (former-TypedStmt-If-0-at-2.map ManyBlock TypedBlock (λ k. k.0)) arms
 
-  abbrev arms_made : Bool → List (NumExpr × ManyBlock) → List Part
-  arms_made inside arms = joined (map (λ (arm : NumExpr × (Bool → List Part)). arm_parts (arm.0, arm.1 inside)) (map (former-TypedStmt-If-0-at-2.map TypedBlock (Bool → List Part) block_parts) (blocks_of arms)))
+  abbrev arms_made : Bool → List (NumExpr × ManyBlock) → List TreePart
+  arms_made inside arms = joined (map (λ (arm : NumExpr × (Bool → List TreePart)). arm_parts (arm.0, arm.1 inside)) (map (former-TypedStmt-If-0-at-2.map TypedBlock (Bool → List TreePart) block_parts) (blocks_of arms)))
 
   arms-same : (arms : List (NumExpr × ManyBlock)) (inside : Bool) (one other : Does Flow) → Fits v (arms_made inside arms) → Same one other →
       Same (first_arm (map (arm_by reader) (map (former-TypedStmt-If-0-at-2.map TypedBlock (Does Flow) (block_by reader)) (blocks_of arms))) one) (first_arm (map arm_does (map (former-TypedStmt-If-0-at-2.map TypedBlock (Does Flow) block_does) (blocks_of arms))) other)
@@ -200,7 +200,7 @@ module _ (comes : Call → Reply → Type 0) (reader : Reader) (v : View) (reads
   number-same None fit = self (given (pos 1))
   number-same (Some e) fit = num_read comes reader v reads e fit
 
-  stmt_case : (h : TypedStmt-F ManyStmt ManyBlock) (inside : Bool) → Fits v (tree.stmt_layer (map-TypedStmt TypedStmt TypedBlock (Bool → List Part) (Bool → List Part) stmt_parts block_parts (stmt_of h)) inside) →
+  stmt_case : (h : TypedStmt-F ManyStmt ManyBlock) (inside : Bool) → Fits v (tree.stmt_layer (map-TypedStmt TypedStmt TypedBlock (Bool → List TreePart) (Bool → List TreePart) stmt_parts block_parts (stmt_of h)) inside) →
       Same (stmt_by reader (map-TypedStmt TypedStmt TypedBlock (Does Flow) (Does Flow) stmt_does_by (block_by reader) (stmt_of h))) (stmt_by_parts (map-TypedStmt TypedStmt TypedBlock (Does Flow) (Does Flow) stmt_does block_does (stmt_of h)))
   stmt_case (TypedStmt-F.SetVar var value) inside fit =
       first (value_by reader value) (value_does value) _ (any_read comes reader v reads value (tail (tree.VarOf var (made_of value).shape) (made_of value).parts fit))
@@ -239,7 +239,7 @@ module _ (comes : Call → Reply → Type 0) (reader : Reader) (v : View) (reads
   stmt_step x h e = subst (λ (y : TypedStmt-F TypedStmt TypedBlock). StmtRead (roll-TypedStmt y)) e (λ inside fit.
       subst (λ (d : Does Flow). Same d (stmt_does (roll-TypedStmt (stmt_of h)))) (sym (fold-roll-TypedStmt (Does Flow) (Does Flow) (stmt_by reader) block_by_parts (stmt_of h)))
       (subst (λ (d : Does Flow). Same (stmt_by reader (map-TypedStmt TypedStmt TypedBlock (Does Flow) (Does Flow) stmt_does_by (block_by reader) (stmt_of h))) d) (sym (fold-roll-TypedStmt (Does Flow) (Does Flow) stmt_by_parts block_by_parts (stmt_of h)))
-      (stmt_case h inside (subst (λ (k : Bool → List Part). Fits v (k inside)) (fold-roll-TypedStmt (Bool → List Part) (Bool → List Part) tree.stmt_layer tree.block_layer (stmt_of h)) fit))))
+      (stmt_case h inside (subst (λ (k : Bool → List TreePart). Fits v (k inside)) (fold-roll-TypedStmt (Bool → List TreePart) (Bool → List TreePart) tree.stmt_layer tree.block_layer (stmt_of h)) fit))))
 
   abbrev block_of : TypedBlock-F ManyStmt ManyBlock → TypedBlock-F TypedStmt TypedBlock
   block_of h = map-TypedBlock ManyStmt ManyBlock TypedStmt TypedBlock (λ k. k.0) (λ k. k.0) h
@@ -248,7 +248,7 @@ module _ (comes : Call → Reply → Type 0) (reader : Reader) (v : View) (reads
   block_step x h e = subst (λ (y : TypedBlock-F TypedStmt TypedBlock). BlockRead (roll-TypedBlock y)) e (λ inside fit.
       subst (λ (d : Does Flow). Same d (block_does (roll-TypedBlock (block_of h)))) (sym (fold-roll-TypedBlock (Does Flow) (Does Flow) (stmt_by reader) block_by_parts (block_of h)))
       (subst (λ (d : Does Flow). Same (block_by_parts (map-TypedBlock TypedStmt TypedBlock (Does Flow) (Does Flow) stmt_does_by (block_by reader) (block_of h))) d) (sym (fold-roll-TypedBlock (Does Flow) (Does Flow) stmt_by_parts block_by_parts (block_of h)))
-      (stmts-same h.stmts inside (parts (joined (map (λ (k : Bool → List Part). k inside) (map stmt_parts (firsts h.stmts)))) (Ends_block ∷ []) (subst (λ (k : Bool → List Part). Fits v (k inside)) (fold-roll-TypedBlock (Bool → List Part) (Bool → List Part) tree.stmt_layer tree.block_layer (block_of h)) fit)).0)))
+      (stmts-same h.stmts inside (parts (joined (map (λ (k : Bool → List TreePart). k inside) (map stmt_parts (firsts h.stmts)))) (Ends_block ∷ []) (subst (λ (k : Bool → List TreePart). Fits v (k inside)) (fold-roll-TypedBlock (Bool → List TreePart) (Bool → List TreePart) tree.stmt_layer tree.block_layer (block_of h)) fit)).0)))
 
   block_read : (b : TypedBlock) → BlockRead b
   block_read b = ind-TypedBlock StmtRead BlockRead stmt_step block_step b

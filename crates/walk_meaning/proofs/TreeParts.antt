@@ -17,27 +17,27 @@ use Rattle.typed_tree.specs.declared.expr.NumExpr.{NumExpr, fold-roll-NumExpr}
 use Rattle.typed_tree.specs.declared.expr.NumExpr.TheVariants as nums
 use Rattle.typed_tree.specs.declared.expr.StrExpr.{StrExpr, fold-roll-StrExpr}
 use Rattle.typed_tree.specs.declared.expr.StrExpr.TheVariants as strs
-use Rattle.typed_tree.specs.Parts.{Part, Made, made_of, any_layer, num_layer, str_layer, num_parts, str_parts, parts_in, key_shapes, keyed_parts, FieldOf, MapOf, AggOf, Stepped, set_map_parts, update_map_parts, gather_parts, number_parts, delete_parts}
+use Rattle.typed_tree.specs.Parts.{TreePart, Made, made_of, any_layer, num_layer, str_layer, num_parts, str_parts, parts_in, key_shapes, keyed_parts, FieldOf, MapOf, AggOf, Stepped, set_map_parts, update_map_parts, gather_parts, number_parts, delete_parts}
 use Rattle.typed_tree.specs.Scope.{fits, all_fit, is_declared, is_shared, is_summed, decl_of, kind_of_shape, same_bool, is_count}
 use Rattle.walk_meaning.specs.declared.view.View.{View}
 use Rattle.walk_meaning.specs.Served.{Fits, NamesShared, scope_in, all_made}
 
 pub num_field_parts : (v : View) (e : NumExpr) (f : Field) → e ≡ nums.Field f → Fits v (num_parts e) → fits (scope_in v) (FieldOf f Int) ≡ true
 num_field_parts v e f h fit =
-    let is : num_parts e ≡ FieldOf f Int ∷ [] = ap num_parts h ∙ (ap num_parts (sym (nums.rolls-Field f)) ∙ fold-roll-NumExpr Made (List Part) (List Part) any_layer num_layer str_layer (NumExpr-F.NumExpr::Field f)) in
-    (and_parts (fits (scope_in v) (FieldOf f Int)) true (subst (λ (l : List Part). all_fit (scope_in v) l ≡ true) is fit)).0
+    let is : num_parts e ≡ FieldOf f Int ∷ [] = ap num_parts h ∙ (ap num_parts (sym (nums.rolls-Field f)) ∙ fold-roll-NumExpr Made (List TreePart) (List TreePart) any_layer num_layer str_layer (NumExpr-F.NumExpr::Field f)) in
+    (and_parts (fits (scope_in v) (FieldOf f Int)) true (subst (λ (l : List TreePart). all_fit (scope_in v) l ≡ true) is fit)).0
 
 pub str_field_parts : (v : View) (e : StrExpr) (f : Field) → e ≡ strs.Field f → Fits v (str_parts e) → fits (scope_in v) (FieldOf f Str) ≡ true
 str_field_parts v e f h fit =
-    let is : str_parts e ≡ FieldOf f Str ∷ [] = ap str_parts h ∙ (ap str_parts (sym (strs.rolls-Field f)) ∙ fold-roll-StrExpr Made (List Part) (List Part) any_layer num_layer str_layer (StrExpr-F.StrExpr::Field f)) in
-    (and_parts (fits (scope_in v) (FieldOf f Str)) true (subst (λ (l : List Part). all_fit (scope_in v) l ≡ true) is fit)).0
+    let is : str_parts e ≡ FieldOf f Str ∷ [] = ap str_parts h ∙ (ap str_parts (sym (strs.rolls-Field f)) ∙ fold-roll-StrExpr Made (List TreePart) (List TreePart) any_layer num_layer str_layer (StrExpr-F.StrExpr::Field f)) in
+    (and_parts (fits (scope_in v) (FieldOf f Str)) true (subst (λ (l : List TreePart). all_fit (scope_in v) l ≡ true) is fit)).0
 
 pub step_map_parts : (v : View) (e : NumExpr) (m : MapId) (keys : List AnyExpr) (plus prefix : Bool) → e ≡ nums.StepMap m keys plus prefix → Fits v (num_parts e) →
     IsTrue (is_declared (decl_of m.0 v.body.now.maps) Ints (key_shapes (all_made keys)))
 step_map_parts v e m keys plus prefix h fit =
     let is : num_parts e ≡ Stepped plus prefix ∷ keyed_parts m.0 (all_made keys) Int =
-    ap num_parts h ∙ (ap num_parts (sym (nums.rolls-StepMap m keys plus prefix)) ∙ fold-roll-NumExpr Made (List Part) (List Part) any_layer num_layer str_layer (NumExpr-F.StepMap m keys plus prefix)) in
-    (and_parts (fits (scope_in v) (MapOf m.0 (key_shapes (all_made keys)) Int)) (all_fit (scope_in v) (parts_in (all_made keys))) (subst (λ (l : List Part). all_fit (scope_in v) l ≡ true) is fit)).0
+    ap num_parts h ∙ (ap num_parts (sym (nums.rolls-StepMap m keys plus prefix)) ∙ fold-roll-NumExpr Made (List TreePart) (List TreePart) any_layer num_layer str_layer (NumExpr-F.StepMap m keys plus prefix)) in
+    (and_parts (fits (scope_in v) (MapOf m.0 (key_shapes (all_made keys)) Int)) (all_fit (scope_in v) (parts_in (all_made keys))) (subst (λ (l : List TreePart). all_fit (scope_in v) l ≡ true) is fit)).0
 
 -- an aggregation that is read, and the parts of its key
 pub agg_head : (v : View) (m : MapId) (keys : List Made) → Fits v (AggOf m.0 (key_shapes keys) ∷ parts_in keys) → IsTrue (is_summed (decl_of m.0 v.body.now.maps) (key_shapes keys)) × Fits v (parts_in keys)
@@ -67,7 +67,7 @@ module _ (v : View) (m : MapId) (keys : List Made) where
   pub set_head : (value : Made) → Fits v (set_map_parts m.0 keys value) → IsTrue (is_declared (decl_of m.0 v.body.now.maps) (kind_of_shape value.shape) (key_shapes keys))
   set_head value fit = (and_parts (is_declared (decl_of m.0 v.body.now.maps) (kind_of_shape value.shape) (key_shapes keys)) (all_fit (scope_in v) (parts_in keys ++ value.parts)) fit).0
 
-  pub update_head : (op : BinOp) (value : List Part) → Fits v (update_map_parts op m.0 keys value) → IsTrue (is_declared (decl_of m.0 v.body.now.maps) (kind_of_shape Int) (key_shapes keys))
+  pub update_head : (op : BinOp) (value : List TreePart) → Fits v (update_map_parts op m.0 keys value) → IsTrue (is_declared (decl_of m.0 v.body.now.maps) (kind_of_shape Int) (key_shapes keys))
   update_head op value fit = (and_parts (is_declared (decl_of m.0 v.body.now.maps) (kind_of_shape Int) (key_shapes keys)) (all_fit (scope_in v) (parts_in keys ++ value)) fit).0
 
   pub gather_head : (kind : AggKind) (number : Option NumExpr) → Fits v (gather_parts m.0 keys kind number) → IsTrue (is_declared (decl_of m.0 v.body.now.maps) (Aggs kind) (key_shapes keys))

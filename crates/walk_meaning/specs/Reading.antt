@@ -21,7 +21,7 @@ use Rattle.bt_core.specs.Arithmetic.{binary_value}
 use Rattle.bt_core.specs.Interaction.{Interaction, Ended, ask, and_then}
 use Rattle.bt_core.specs.Kinds.{IsShared}
 use Rattle.map_rows.specs.Merged.{rows_in, value_row, agg_row, merged_rows}
-use Rattle.map_rows.specs.UnderKey.{number_under as number_in}
+use Rattle.map_rows.specs.UnderKey.{number_asked as number_in}
 use Rattle.typed_tree.specs.declared.body.TypedBody.{TypedBody}
 use Rattle.typed_tree.specs.declared.body.TypedTree.{TypedTree}
 use Rattle.typed_tree.specs.declared.expr.AnyExpr.{AnyExpr, fold-AnyExpr}
@@ -62,14 +62,14 @@ pub record TakesWhatIsThere (reader : Reader) : Type 0 where
 
 module _ (reader : Reader) where
   -- the number under a key, and the string
-  abbrev pub number_under : MapId → List Value → Does ℤ
-  number_under m key = lifted (λ scene. and_then (ask (part m key) (ops.Get key)) (λ reply. Ended (reader.number reply)))
+  abbrev pub number_asked : MapId → List Value → Does ℤ
+  number_asked m key = lifted (λ scene. and_then (ask (part m key) (ops.Get key)) (λ reply. Ended (reader.number reply)))
 
   abbrev pub text_under : MapId → List Value → Does (List ℕ)
   text_under m key = lifted (λ scene. and_then (ask (part m key) (ops.Get key)) (λ reply. Ended (reader.text reply)))
 
   abbrev pub stepped_under : MapId → Bool → Bool → List Value → Does ℤ
-  stepped_under m plus prefix key = bind (number_under m key) (λ old. then (set m key (Int (next plus old))) (given (cond prefix (next plus old) old)))
+  stepped_under m plus prefix key = bind (number_asked m key) (λ old. then (set m key (Int (next plus old))) (given (cond prefix (next plus old) old)))
 
   -- the number of an aggregation under a key of the merged rows of all tables
   abbrev pub summed_by : MapKind → MapId → List Value → ℕ → Interaction ℤ
@@ -82,7 +82,7 @@ module _ (reader : Reader) where
 
   -- the expressions that read a reply; each other one does what it does in the walk
   abbrev pub num_by : NumExpr-F (Does Value) (Does ℤ) (Does (List ℕ)) → Does ℤ
-  num_by (NumExpr-F.NumExpr::Map m keys) = bind (in_order keys) (number_under m)
+  num_by (NumExpr-F.NumExpr::Map m keys) = bind (in_order keys) (number_asked m)
   num_by (NumExpr-F.Agg m keys) = bind (in_order keys) (summed_under m)
   num_by (NumExpr-F.StepMap m keys plus prefix) = bind (in_order keys) (stepped_under m plus prefix)
   num_by e = number_by_parts e
@@ -108,7 +108,7 @@ module _ (reader : Reader) where
   number_or_one_by (Some e) = number_by e
 
   abbrev pub updated_under : MapId → BinOp → ℤ → List Value → Does Flow
-  updated_under m op b key = bind (number_under m key) (λ a. plain (set m key (Int (binary_value op a b))))
+  updated_under m op b key = bind (number_asked m key) (λ a. plain (set m key (Int (binary_value op a b))))
 
   -- the rows of all replies are merged and emitted
   abbrev pub printed_by : MapKind → MapId → ℕ → ℤ → ℕ → Interaction (Unit {0})

@@ -15,7 +15,7 @@ use Rattle.typed_tree.specs.declared.expr.AnyExpr.{AnyExpr}
 use Rattle.typed_tree.specs.declared.stmt.TypedBlock.{TypedBlock}
 use Rattle.typed_tree.specs.declared.stmt.TypedStmt.{TypedStmt}
 use Rattle.typed_tree.specs.Bodies.{scope_of}
-use Rattle.typed_tree.specs.Parts.{Part as TreePart, Made, made_of, stmt_parts, block_parts}
+use Rattle.typed_tree.specs.Parts.{TreePart, Made, made_of, stmt_parts, block_parts}
 use Rattle.typed_tree.specs.Scope.{Scope, all_fit, is_fine_decl, is_shared, decl_of}
 use Rattle.walk_meaning.specs.declared.view.View.{View}
 use Rattle.walk_meaning.specs.Does.{BodyScene}

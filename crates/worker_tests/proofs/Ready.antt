@@ -6,12 +6,12 @@ use Rattle.actor_plan.specs.Plans.{Plan}
 use Rattle.cpu_worker.specs.declared.worker.CpuWorker.{CpuWorker}
 use Rattle.cpu_worker.specs.declared.world.SharedWorld.{SharedWorld}
 use Rattle.cpu_worker.specs.declared.world.WorkerTurns.{WorkerTurns}
-use Rattle.cpu_worker.specs.Worlds.{world_cpus, sets_in, AreTurnsOf, CanReplay, IsPlanIn}
-use Rattle.cpu_worker.specs.Workers.{IsReady}
+use Rattle.cpu_worker.specs.Worlds.{world_cpus, sets_in, AreTurnsOf, IsReplayable, IsPlanIn}
+use Rattle.cpu_worker.specs.Workers.{IsReadyWorker}
 
 pub is_ready : {B G : Type 0} (plan : B → Plan) (world : SharedWorld) (w : CpuWorker B G) (cpu : ℕ) (bodies : B) (turns : WorkerTurns) (trace : Trace)
     → w.cpu ≡ cpu → w.bodies ≡ bodies → w.turns ≡ turns → w.trace ≡ trace → actor_of trace ≡ cpu → steps_of trace ≡ []
-    → CanReplay world → cpu < world_cpus world → IsPlanIn world cpu (plan bodies) → AreTurnsOf (sets_in world) cpu turns → IsReady plan world w
+    → IsReplayable world → cpu < world_cpus world → IsPlanIn world cpu (plan bodies) → AreTurnsOf (sets_in world) cpu turns → IsReadyWorker plan world w
 is_ready plan world w cpu bodies turns trace at by with_turns with_trace actor empty replay known made own = record {
   replay = replay;
   known = subst (λ a. a < world_cpus world) (sym at) known;

@@ -1,7 +1,7 @@
 // The workers of two CPUs.
 ghost use Rattle.std.specs.Prelude.{◌≡◌, ℕ, ◌<◌, length, slice_index_or, IfOk};
-ghost use Rattle.cpu_worker.specs.Worlds.{sets_in, world_cpus, AreTurnsOf, CanReplay, IsPlanIn};
-ghost use Rattle.cpu_worker.specs.Workers.{IsReady};
+ghost use Rattle.cpu_worker.specs.Worlds.{sets_in, world_cpus, AreTurnsOf, IsReplayable, IsPlanIn};
+ghost use Rattle.cpu_worker.specs.Workers.{IsReadyWorker};
 
 use actor_plan::bodies::Bodies;
 use actor_plan::outcome::Outcome;
@@ -31,11 +31,11 @@ pub fn new_task<'g, B: Bodies, G: Gate>(
     gate: &'g G,
     turns: WorkerTurns,
 ) -> Task<'g, B, G>
-    requires replay { CanReplay world.now }
+    requires replay { IsReplayable world.now }
     requires known { cpu < world_cpus world.now }
     requires plan { IsPlanIn world.now cpu (B.plan bodies) }
     requires turns { AreTurnsOf (sets_in world.now) cpu turns }
-    ensures ready { IsReady B.plan world.now result.worker }
+    ensures ready { IsReadyWorker B.plan world.now result.worker }
     ensures cpu { result.worker.cpu ≡ cpu }
 {
     let worker = CpuWorker::new(cpu, bodies, gate, turns, Trace::new(alloc, cpu));
@@ -55,7 +55,7 @@ struct Common<'a, R> {
 
 /// Runs a worker, and keeps how that ended.
 fn run_one<B: Bodies, G: Gate, R: Wait>(common: &Common<R>, task: &mut Task<B, G>)
-    requires { IsReady B.plan common.now.world.now task.old.worker }
+    requires { IsReadyWorker B.plan common.now.world.now task.old.worker }
     ensures { AreTurnsOf (sets_in common.now.world.now) task.old.worker.cpu task.new.worker.turns }
 {
     task.ended = Some(task.worker.run(common.rt, common.alloc, common.world));
@@ -70,7 +70,7 @@ fn run_each<B: Bodies + Send, G: Gate + Sync, R: Threads + Wait + Sync>(
     threads: usize,
 )
     requires some { 0 < threads }
-    requires ready { (i : ℕ) (d : Task B G) → i < length tasks.old → IsReady B.plan world.now (slice_index_or tasks.old i d).worker }
+    requires ready { (i : ℕ) (d : Task B G) → i < length tasks.old → IsReadyWorker B.plan world.now (slice_index_or tasks.old i d).worker }
     ensures { (i : ℕ) (d : Task B G) → i < length tasks.old →
         AreTurnsOf (sets_in world.now) (slice_index_or tasks.old i d).worker.cpu (slice_index_or tasks.new i d).worker.turns }
 {
@@ -88,7 +88,7 @@ fn run_all<B: Bodies + Send, G: Gate + Sync, R: Threads + Wait + Sync>(
     threads: usize,
 )
     requires some { 0 < threads }
-    requires ready { (i : ℕ) (d : Task B G) → i < length tasks.old.items → IsReady B.plan world.now (slice_index_or tasks.old.items i d).worker }
+    requires ready { (i : ℕ) (d : Task B G) → i < length tasks.old.items → IsReadyWorker B.plan world.now (slice_index_or tasks.old.items i d).worker }
     ensures same { length tasks.new.items ≡ length tasks.old.items }
     ensures ran { (i : ℕ) (d : Task B G) → i < length tasks.old.items →
         AreTurnsOf (sets_in world.now) (slice_index_or tasks.old.items i d).worker.cpu (slice_index_or tasks.new.items i d).worker.turns }
@@ -117,8 +117,8 @@ fn run_two<'g, B: Bodies + Drop + Send, G: Gate + Sync, R: Threads + Wait + Sync
     other: Task<'g, B, G>,
 ) -> Result<(Task<'g, B, G>, Task<'g, B, G>), Memory>
     requires some { 0 < threads }
-    requires one { IsReady B.plan world.now one.worker }
-    requires other { IsReady B.plan world.now other.worker }
+    requires one { IsReadyWorker B.plan world.now one.worker }
+    requires other { IsReadyWorker B.plan world.now other.worker }
     ensures one { IfOk result (λ r. AreTurnsOf (sets_in world.now) one.entry.worker.cpu r.0.worker.turns) }
     ensures other { IfOk result (λ r. AreTurnsOf (sets_in world.now) other.entry.worker.cpu r.1.worker.turns) }
 {
@@ -140,8 +140,8 @@ pub fn run_both<'g, B: Bodies + Drop + Send, G: Gate + Sync, R: Threads + Wait +
     first: Task<'g, B, G>,
     second: Task<'g, B, G>,
 ) -> Result<(Task<'g, B, G>, Task<'g, B, G>), Memory>
-    requires first { IsReady B.plan world.now first.worker }
-    requires second { IsReady B.plan world.now second.worker }
+    requires first { IsReadyWorker B.plan world.now first.worker }
+    requires second { IsReadyWorker B.plan world.now second.worker }
     ensures first { IfOk result (λ r. AreTurnsOf (sets_in world.now) first.entry.worker.cpu r.0.worker.turns) }
     ensures second { IfOk result (λ r. AreTurnsOf (sets_in world.now) second.entry.worker.cpu r.1.worker.turns) }
 {

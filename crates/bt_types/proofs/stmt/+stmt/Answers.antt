@@ -9,7 +9,7 @@ use Rattle.typed_tree.specs.declared.stmt.TypedStmt.{TypedStmt}
 use Rattle.typed_tree.specs.declared.stmt.TypedBlock.{TypedBlock}
 use Rattle.expr_types.specs.Mentions.{ArmWord, WhileWord, EndWord}
 use Rattle.expr_types.specs.Judge.{judged, SaysFault}
-use Rattle.typed_tree.specs.Parts.{Part, Arm, Looped, Ending, num_parts, joined, arm_parts, otherwise_parts, stmt_parts, block_parts}
+use Rattle.typed_tree.specs.Parts.{TreePart, Arm, Looped, Ending, num_parts, joined, arm_parts, otherwise_parts, stmt_parts, block_parts}
 use Rattle.bt_types.specs.Told.{Told, says, told_in_turn, condition_told, arm_told, otherwise_told, if_told, while_told, unroll_told, block_told, of_block, of_stmt}
 use Rattle.bt_types.specs.Done.{Done}
 use Rattle.bt_types.proofs.Turns.{done_in, done_next, done_says, fault_in, refused_front, refused_next, does_err, does_in_err}
@@ -104,7 +104,7 @@ check_unroll-returns t c = λ (inside : Bool).
 abbrev arm_at : Bool → Expr × Block → Told
 arm_at inside arm = arm_told (arm.0, of_block arm.1 inside)
 
-abbrev parts_at : Bool → NumExpr × TypedBlock → List Part
+abbrev parts_at : Bool → NumExpr × TypedBlock → List TreePart
 parts_at inside arm = arm_parts (arm.0, block_parts arm.1 inside)
 
 pub check_kind-returns-in_err-typed-in-If : goal.check_kind-returns-in_err-typed-in-If

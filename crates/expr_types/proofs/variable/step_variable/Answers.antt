@@ -1,7 +1,7 @@
 use Rattle.std.proofs.Common.{◌≡◌, ℕ, List, Some, slice_get, ap, sym, subst, ◌∙◌}
 use Rattle.bt_core.specs.declared.map.Shape.{Shape}
 use Rattle.bt_core.specs.declared.map.Shape.TheVariants.{Int}
-use Rattle.typed_tree.specs.Parts.{Part, made}
+use Rattle.typed_tree.specs.Parts.{TreePart, made}
 use Rattle.expr_types.specs.declared.known.Var.{Var}
 use Rattle.expr_types.specs.Known.{var_in}
 use Rattle.expr_types.specs.Walk.{OnVar, step_seen}
@@ -17,5 +17,5 @@ returns-in_ok-number-in-Int-clause-checks c =
     subst (λ (s : Shape). (var_in v.name k.vars ≡ Some s) × (slice_get k.vars c.in-Some.at ≡ Some (let x : Var = record { name = v.name; shape = s } in x))) c.in-Int.is
     (subst (λ (n : List ℕ). (var_in n k.vars ≡ Some c.in-Some.shape) × (slice_get k.vars c.in-Some.at ≡ Some (let x : Var = record { name = n; shape = c.in-Some.shape } in x))) c.as_slice.ensures c.in-Some.ensures) in
     let numbered = ap (λ n. slice_get k.vars n) c.in_ok-number-in-Int.ensures.number ∙ found.1 in
-    subst (λ (ps : List Part). Checked (step_seen c.args.plus c.args.prefix c.args.place (OnVar v.name v.place)) k k (made Int ps)) (sym c.stepped.ensures)
+    subst (λ (ps : List TreePart). Checked (step_seen c.args.plus c.args.prefix c.args.place (OnVar v.name v.place)) k k (made Int ps)) (sym c.stepped.ensures)
     (step_var_checked k v.name v.place c.args.place c.in_ok-number-in-Int.number c.args.plus c.args.prefix found.0 numbered)

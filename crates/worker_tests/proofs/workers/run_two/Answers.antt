@@ -1,12 +1,12 @@
 use Rattle.cpu_worker.specs.Worlds.{sets_in, AreTurnsOf}
-use Rattle.cpu_worker.specs.Workers.{IsReady}
+use Rattle.cpu_worker.specs.Workers.{IsReadyWorker}
 use Rattle.worker_tests.specs.declared.workers.Task.{Task}
 use Rattle.worker_tests.proofs.Pairs.{each_of_two, first_taken, second_taken, two_pushed}
 use Rattle.worker_tests.proofs.workers.run_two.Goals as goal
 
 pub run_all-requires-clause-ready : goal.run_all-requires-clause-ready
 run_all-requires-clause-ready g c κs within =
-    let P : Task g.row.B.Denot g.row.G.Denot → Type 0 = λ t. IsReady g.B.Bodies.plan c.args.world.now t.worker in
+    let P : Task g.row.B.Denot g.row.G.Denot → Type 0 = λ t. IsReadyWorker g.B.Bodies.plan c.args.world.now t.worker in
     let both = two_pushed c.in_ok-tasks.tasks.items c.push_reserved.new.self.items c.push_reserved-2.new.self.items c.args.one c.args.other
     c.in_ok-tasks.ensures.items c.push_reserved.ensures.items c.push_reserved-2.ensures.items in
     each_of_two P c.args.one c.args.other c.requires.one c.requires.other c.push_reserved-2.new.self.items both
