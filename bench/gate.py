@@ -2,14 +2,15 @@
 """Measures one run of the gate: python3 bench/gate.py [REPORT [COMMAND ..]]
 
 As root, at the top of the repository, it runs `rt ci --anew`, or another command, with the kernel's accounting of processes turned on, which counts the
-processor time of each process to its end, and notes meanwhile, every tenth of a second, which crate each new process works for, by its folder and its
-words. What ends without being seen goes to the crate of the process that began it. The accounting is of the whole machine, into a file that is removed
-again; it is turned off at the end. So no other check should run meanwhile: one of the same crate would be counted with it.
+processor time of each process to its end, and notes meanwhile, every tenth of a second, which crate each process works for that comes from the command,
+by its folder and its words. What ends without being seen goes to the crate of the process that began it. The accounting is of the whole machine, into a
+file that is removed again, and is turned off at the end; what does not come from the command is not counted.
 
 Then it prints, and writes to the file REPORT where one is given, the processor seconds of each crate: of its proof, of its tests, and of its edits; their
 sums, beside what the command took with all its processes; what the first build takes of it; and the dearest chains of crates by the seconds of proofs.
 """
 import collections
+import contextlib
 import ctypes
 import os
 import pathlib
@@ -40,10 +41,11 @@ def named():
 
 
 class Watch(threading.Thread):
-    """Notes of each process below this one whose child it is, and for which crate it works and how."""
+    """Notes of each process that comes from the command whose child it is, and for which crate it works and how."""
 
-    def __init__(self):
+    def __init__(self, first):
         super().__init__(daemon=True)
+        self.first = first
         self.seen = {}
         self.ended = threading.Event()
 
@@ -52,23 +54,27 @@ class Watch(threading.Thread):
             self.look()
 
     def look(self):
+        """Notes those that are there now."""
+        found = {}
         for name in os.listdir("/proc"):
             if name.isdigit():
-                self.note(int(name))
+                with contextlib.suppress(OSError, ValueError, IndexError):
+                    fields = pathlib.Path(f"/proc/{name}/stat").read_text().rpartition(")")[2].split()
+                    found[int(name)] = int(fields[1]), int(fields[19])
+        for pid in found:
+            above = pid
+            while above in found and above != self.first:
+                above = found[above][0]
+            if above == self.first:
+                self.note(pid, *found[pid])
 
-    def note(self, pid):
-        try:
-            stat = pathlib.Path(f"/proc/{pid}/stat").read_text()
-            began = int(stat.rpartition(")")[2].split()[19])
-            known = self.seen.get((pid, began))
-            if known and known[1] in KINDS:
-                return
+    def note(self, pid, parent, began):
+        known = self.seen.get((pid, began))
+        if known and known[1] in KINDS:
+            return
+        with contextlib.suppress(OSError):
             words = pathlib.Path(f"/proc/{pid}/cmdline").read_bytes().decode(errors="replace").split("\0")
-            folder = os.readlink(f"/proc/{pid}/cwd")
-            parent = int(stat.rpartition(")")[2].split()[1])
-            self.seen[pid, began] = (*work_of(words, folder), parent)
-        except (OSError, ValueError):
-            pass
+            self.seen[pid, began] = (*work_of(words, os.readlink(f"/proc/{pid}/cwd")), parent)
 
 
 def work_of(words, folder):
@@ -183,13 +189,16 @@ def main(words):
         path.touch(mode=0o600)
         if libc.acct(bytes(path)):
             sys.exit(f"the accounting of processes cannot be turned on: {os.strerror(ctypes.get_errno())}")
-        watch, began = Watch(), time.monotonic()
+        began = time.monotonic()
         try:
+            run = subprocess.Popen(command, cwd=TOP)
+            watch = Watch(run.pid)
             watch.start()
-            status = subprocess.run(command, cwd=TOP).returncode
+            status = run.wait()
         finally:
             libc.acct(None)
-            watch.ended.set()
+        watch.ended.set()
+        watch.join()
         wall = time.monotonic() - began
         used = resource.getrusage(resource.RUSAGE_CHILDREN)
         sums = accounted(path, watch.seen)
