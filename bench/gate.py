@@ -23,21 +23,13 @@ import tempfile
 import threading
 import time
 
+import proofs
+
 TOP = pathlib.Path(__file__).resolve().parent.parent
 EVERY = 0.1
 RECORD = struct.Struct("<BBHIIIIIIfHHHHHHHH16s")
 TICKS = 100
 KINDS = ("proof", "tests", "edits")
-
-
-def named():
-    """What each crate names, by crates.txt."""
-    found = {}
-    for line in (TOP / "crates.txt").read_text().splitlines():
-        if line.strip() and not line.startswith("#"):
-            head, _, rest = line.partition(":")
-            found[head.split()[0]] = rest.split()
-    return found
 
 
 class Watch(threading.Thread):
@@ -202,7 +194,7 @@ def main(words):
         wall = time.monotonic() - began
         used = resource.getrusage(resource.RUSAGE_CHILDREN)
         sums = accounted(path, watch.seen)
-    lines = told(sums, wall, used.ru_utime + used.ru_stime, named())
+    lines = told(sums, wall, used.ru_utime + used.ru_stime, proofs.dependencies())
     print("\n".join(lines))
     if report:
         pathlib.Path(report).write_text("\n".join(lines) + "\n")
