@@ -7,7 +7,8 @@ as source, and the functions of it that the named ones call are checked as well.
 a crate low down, and more than 12 GB for the topmost. The check is one by hand: it is not the gate, and nothing of it is kept. For each module of
 the proof it tells the seconds of the clock that passed until it was checked, the longest first, and before them the sums by kind of module. Of a
 function, `Lts` is the part that the borrow checker leaves, `Proof` and `Tie` are what its clauses take, and a module that is none of a function's
-is a file of `specs/` or `proofs/`, or what is made of a type.
+is a file of `specs/` or `proofs/`, or what is made of a type. Behind them stand the dearest goals and lemmas, with the seconds that the prover itself
+notes of each, which other work on the machine hardly moves, and of the tactics in it: a goal that takes a `search` which nobody wrote wants its answer.
 """
 import collections
 import os
@@ -21,6 +22,10 @@ TOP = pathlib.Path(__file__).resolve().parent.parent
 CRATES = TOP / "crates"
 SHOWN = 40
 LEAST = 0.5
+LEAST_OF_GOALS = 0.1
+# What the prover notes of a definition, as it lies among the bytes of a module that was checked: what it called, its name, and its millionths of a second.
+NOTE = re.compile(rb'"calls":(\[[^{}]*?\]),"goals":[^{}]*?"name":"([^"]*)"[^{}]*?"phases":\[([\d,]+)\]')
+CALL = re.compile(r'\["([^"]*)",\[\d+,\d+\],(\d+)\]')
 
 
 def dependencies():
@@ -88,6 +93,25 @@ def times(kept):
     return [(now - before, name.removesuffix(".oantt").removesuffix(".decls")) for (before, _), (now, name) in zip(written, written[1:])]
 
 
+def goals(kept, crate):
+    """Each goal and lemma of the crate's own modules: its name, its seconds, and the tactics in it with theirs."""
+    found = {}
+    for path in pathlib.Path(kept).rglob(f"Rattle-{crate}-*.decls.oantt"):
+        module = path.name.removesuffix(".decls.oantt").removeprefix(f"Rattle-{crate}-")
+        for calls, name, phases in NOTE.findall(path.read_bytes()):
+            called = [(tactic, int(spent) / 1e6) for tactic, spent in CALL.findall(calls.decode(errors="replace"))]
+            found[f"{module} {name.decode(errors='replace')}"] = (sum(map(int, phases.split(b","))) / 1e6, called)
+    return found
+
+
+def told_goals(found):
+    """The lines of the dearest goals."""
+    for name, (spent, called) in sorted(found.items(), key=lambda it: -it[1][0])[:SHOWN]:
+        if spent >= LEAST_OF_GOALS:
+            dear = ", ".join(f"{tactic} {of_it:.2f}" for tactic, of_it in called if of_it >= LEAST_OF_GOALS)
+            yield f"{spent:8.2f}  {name}{': ' if dear else ''}{dear}"
+
+
 def kind(module):
     """What a module is: the last part of its name, without the function that it may be of."""
     library, _, rest = module.partition(".")
@@ -112,6 +136,7 @@ def main(words):
         for spent, module in times(kept):
             seconds[module] += spent
             kinds[kind(module)] += spent
+        dearest = list(told_goals(goals(kept, crate)))
     for what, spent in kinds.most_common():
         if spent >= LEAST:
             print(f"{spent:8.1f}  {what}")
@@ -119,6 +144,7 @@ def main(words):
     for module, spent in seconds.most_common(SHOWN):
         if spent >= LEAST:
             print(f"{spent:8.1f}  {module}")
+    print("", *dearest, "", sep="\n")
     print(done.stdout.splitlines()[-1] if done.stdout else f"the check ended with status {done.returncode}")
     return done.returncode
 
