@@ -15,7 +15,7 @@ pub record BodyScene : Type 0 where
   pub actors : ℕ
   pub maps : List (MapId × MapDecl)
 
--- from what is seen and the frame to a value and the frame after it, by calls
+-- a reader and state over interaction trees: it reads what is seen, changes the frame, makes calls, and ends with a value
 abbrev pub Does : Type 0 → Type 0
 Does A = BodyScene → Frame → Interaction (A × Frame)
 
