@@ -27,7 +27,6 @@ COMMAND_SECONDS = 200
 START_SECONDS = 120
 WORKERS = ("web1", "web2", "web3")
 WITHOUT_DASK = f"{sys.executable} has no Dask (Debian's package python3-distributed brings it for /usr/bin/python3)"
-NO_PROGRAM = "there is no built program that knows run --json"
 
 # The stand-in notes each run. A recording of the tests is a file of lines that it prints, after a first line of shell
 # that it runs.
@@ -154,23 +153,6 @@ class Cluster:
         """Kills processes by their names, or all."""
         for name in names or list(self.processes):
             self.processes.pop(name).kill()
-
-
-def real_program():
-    """The built program, or none where it does not know run --json."""
-    from btreplay import proved, unproved
-    named = os.environ.get("BTREPLAY_PROGRAM")
-    kept = unproved.cache() / f"unproved-{unproved.checksum()}"
-    for path in [named] if named else [proved.PROGRAM, kept]:
-        if os.access(path, os.X_OK):
-            with tempfile.NamedTemporaryFile(suffix=".bt") as script:
-                script.write(b"BEGIN { @ = count(); }")
-                script.flush()
-                words = [str(path), "run", "--serial", "--json", script.name, str(TOP / "examples" / "small.btr")]
-                done = subprocess.run(words, stdin=subprocess.DEVNULL, stdout=subprocess.PIPE, stderr=subprocess.DEVNULL, timeout=60)
-            if done.returncode == 0 and json.loads(done.stdout) == {"data": [{"key": [], "value": 1}], "map": "@", "type": "map"}:
-                return str(path)
-    return None
 
 
 @unittest.skipUnless(has_dask(), WITHOUT_DASK)

@@ -7,7 +7,9 @@ import subprocess
 import sys
 import unittest
 
-from fleet_hosts import NO_PROGRAM, TOOLS, TOP, WithFolder, real_program
+from fleet_hosts import TOOLS, TOP, WithFolder
+
+from built_program import NO_PROGRAM, real_program
 
 PROGRAM = real_program()
 SMALL, LOSSY = str(TOP / "examples" / "small.btr"), str(TOP / "examples" / "lossy.btr")
