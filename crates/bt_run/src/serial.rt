@@ -15,8 +15,7 @@ ghost use Rattle.bt_run.specs.Runs.{first_turn};
 use crate::port::SerialPort;
 use actor_plan::agenda::AgendaItem;
 use actor_plan::program::{run_begin, run_end, take_item};
-use bpf_insn::insn::Insn;
-use bt_core::items::Items;
+use bpf_interp::code::Code;
 use bt_core::memory::{Memory, sum};
 use bt_meaning::schedule::{Due, Scheduled};
 use run_base::bodies::bodies_at;
@@ -66,7 +65,7 @@ fn goes_on(going: &[bool], cpu: u32) -> bool
 fn take_next(
     alloc: Global,
     job: &Job,
-    codes: &[Items<Insn>],
+    codes: &[Code],
     item: &Scheduled,
     going: &mut Vec<bool>,
     port: &mut SerialPort,
@@ -109,7 +108,7 @@ fn take_next(
 fn take_all(
     alloc: Global,
     job: &Job,
-    codes: &[Items<Insn>],
+    codes: &[Code],
     order: &[Scheduled],
     port: &mut SerialPort,
 ) -> Result<u64, Memory>
@@ -138,7 +137,7 @@ fn take_all(
 fn begin(
     alloc: Global,
     job: &Job,
-    codes: &[Items<Insn>],
+    codes: &[Code],
     port: &mut SerialPort,
 ) -> Result<u64, Memory>
     requires can { CanRunAll job.now (plans_by job.now codes.now) }
@@ -166,7 +165,7 @@ fn begin(
 fn end(
     alloc: Global,
     job: &Job,
-    codes: &[Items<Insn>],
+    codes: &[Code],
     port: &mut SerialPort,
 ) -> Result<u64, Memory>
     requires can { CanRunAll job.now (plans_by job.now codes.now) }
@@ -193,7 +192,7 @@ fn end(
 pub(crate) fn make_steps(
     alloc: Global,
     job: &Job,
-    codes: &[Items<Insn>],
+    codes: &[Code],
     order: &[Scheduled],
     objects: Objects,
 ) -> Result<(Closed, StepList, u64), Memory>

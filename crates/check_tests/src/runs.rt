@@ -3,6 +3,7 @@ ghost use Rattle.std.specs.Prelude.{◌≡◌};
 
 use bpf_check::check::check_code;
 use bpf_encode::decode::decode;
+use bpf_interp::code::Code;
 use bpf_interp::machine::{Ended, Machine};
 use bpf_interp::ports::{PortFault, Ports};
 use bpf_interp::regions::Regions;
@@ -58,9 +59,10 @@ fn a_loop_ends_within_what_was_answered(rt: HostRuntime) -> Result<(), Fail> {
     assert_eq!(rt; most, 24582);
     let code = decode(rt.alloc(), LOOP)?;
     assert_eq!(rt; code.len(), 6);
+    let code = Code::of(rt.alloc(), Items::of(code))?;
     let ended = Machine::run(
         rt.alloc(),
-        code.as_slice(),
+        &code,
         &[0; 128],
         &[],
         &mut NoCalls,

@@ -6,9 +6,8 @@ ghost use Rattle.code_bodies.specs.Coding.{CanRunCode};
 
 use crate::run_body::run_body;
 use actor_plan::bodies::Bodies;
-use bpf_insn::insn::Insn;
+use bpf_interp::code::Code;
 use bt_core::context::Context;
-use bt_core::items::Items;
 use bt_core::memory::Memory;
 use bt_core::port::Port;
 use std::alloc::Global;
@@ -19,7 +18,7 @@ use typed_tree::script::Typed;
 #[derive(Drop)]
 pub struct CodeBodies<'a> {
     script: &'a Typed,
-    codes: &'a [Items<Insn>],
+    codes: &'a [Code],
     actor: u32,
     actors: u32,
     ghost below: { actor < actors },
@@ -53,7 +52,7 @@ impl Bodies for CodeBodies<'_> {
                 run_body(
                     alloc,
                     self.script,
-                    code.as_slice(),
+                    code,
                     context,
                     payload,
                     self.actor,
@@ -72,7 +71,7 @@ impl<'a> CodeBodies<'a> {
     /// The bodies of a script by their codes, for one actor.
     pub fn new(
         script: &'a Typed,
-        codes: &'a [Items<Insn>],
+        codes: &'a [Code],
         actor: u32,
         actors: u32,
     ) -> CodeBodies<'a>

@@ -10,7 +10,7 @@ ghost use Rattle.code_bodies.specs.Programs.{AreCodesOf, KeepScript};
 
 use bpf_encode::decode::{DecodeError, decode};
 use bpf_encode::program::Program;
-use bpf_insn::insn::Insn;
+use bpf_interp::code::Code;
 use bt_core::items::Items;
 use bt_core::memory::Memory;
 use std::alloc::Global;
@@ -20,13 +20,13 @@ use std::alloc::Global;
 /// # Errors
 ///
 /// [`Memory`] where there is no room for it.
-fn code_of(alloc: Global, program: &Program) -> Result<Items<Insn>, Memory>
+fn code_of(alloc: Global, program: &Program) -> Result<Code, Memory>
     requires short { length program.now.bytes < 2 ^ 35 }
     requires spelt { (code : List InsnValue) × IsCodeOf code program.now.bytes }
     ensures { IfOk result (λ got. (code : List InsnValue) → IsCodeOf code program.now.bytes → got ≡ code) }
 {
     match decode(alloc, program.bytes.as_slice()) {
-        Ok(code) => Ok(Items::of(code)),
+        Ok(code) => Code::of(alloc, Items::of(code)),
         Err(DecodeError::Memory(want)) => Err(want),
         Err(_) => unreachable!(),
     }
@@ -38,7 +38,7 @@ fn code_of(alloc: Global, program: &Program) -> Result<Items<Insn>, Memory>
 /// # Errors
 ///
 /// [`Memory`] is the one error.
-pub fn codes_of(alloc: Global, programs: &[Program]) -> Result<Items<Items<Insn>>, Memory>
+pub fn codes_of(alloc: Global, programs: &[Program]) -> Result<Items<Code>, Memory>
     requires { (script : Typed) × KeepScript script programs.now }
     ensures codes { IfOk result (AreCodesOf programs.now) }
     ensures only { IfOk result (λ codes. (others : List (List InsnValue)) → AreCodesOf programs.now others → codes ≡ others) }

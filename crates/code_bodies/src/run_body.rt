@@ -10,8 +10,8 @@ ghost use Rattle.code_bodies.specs.Serving.{told};
 
 use crate::script_port::ScriptPort;
 use bpf_insn::address::CONTEXT_BYTES;
-use bpf_insn::insn::Insn;
 use bpf_insn::trap::Trap;
+use bpf_interp::code::Code;
 use bpf_interp::machine::Ended;
 use bt_core::context::Context;
 use bt_core::limits::FUEL_OF_A_SLOT;
@@ -26,7 +26,7 @@ use typed_tree::script::Typed;
 fn run_through<P: Port>(
     alloc: Global,
     script: &Typed,
-    code: &[Insn],
+    code: &Code,
     context: &[u8; CONTEXT_BYTES],
     payload: &[u8],
     actor: u32,
@@ -66,7 +66,7 @@ fn count_in(run: Result<Ended, Trap>) -> Result<u64, Memory>
 pub(crate) fn run_body<P: Port>(
     alloc: Global,
     script: &Typed,
-    code: &[Insn],
+    code: &Code,
     context: &Context,
     payload: &[u8],
     actor: u32,

@@ -3,9 +3,11 @@ ghost use Rattle.std.specs.Prelude.{◌≡◌};
 
 use anyhow::{Context, Result, bail};
 use bpf_encode::decode::decode;
+use bpf_interp::code::Code;
 use bpf_interp::machine::Machine;
 use bpf_interp::ports::{PortFault, Ports};
 use bpf_interp::regions::Regions;
+use bt_core::items::Items;
 use std::alloc::Global;
 
 /// A port that answers 0 to every call, and keeps R1 to R5 of the last two calls, the number of the last one and the last
@@ -65,8 +67,8 @@ fn watched(alloc: Global, digits: &str, fuel: u64) -> Result<(Watcher, bool)> {
         number: 0,
         stack: [0; 32],
     };
-    let code = code.as_slice();
-    let ended = Machine::run(alloc, code, &[0; 128], &[7, 0], &mut watcher, fuel)?;
+    let code = Code::of(alloc, Items::of(code))?;
+    let ended = Machine::run(alloc, &code, &[0; 128], &[7, 0], &mut watcher, fuel)?;
     Ok((watcher, ended.instructions == fuel))
 }
 

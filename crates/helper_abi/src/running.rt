@@ -7,8 +7,8 @@ ghost use Rattle.helper_abi.specs.Running.{script_run};
 
 use crate::helper_port::HelperPort;
 use bpf_insn::address::CONTEXT_BYTES;
-use bpf_insn::insn::Insn;
 use bpf_interp::Trap;
+use bpf_interp::code::Code;
 use bpf_interp::machine::{Ended, Machine};
 use bt_core::port::Port;
 use std::alloc::Global;
@@ -22,7 +22,7 @@ use typed_tree::script::Typed;
 /// before a trap stand.
 pub fn run_code<P: Port>(
     alloc: Global,
-    code: &[Insn],
+    code: &Code,
     context: &[u8; CONTEXT_BYTES],
     payload: &[u8],
     typed: &Typed,

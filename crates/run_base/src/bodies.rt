@@ -6,12 +6,11 @@ ghost use Rattle.code_bodies.specs.Running.{plan_of};
 ghost use Rattle.run_base.specs.Jobs.{cpus_in, plans_by};
 
 use crate::job::Job;
-use bpf_insn::insn::Insn;
-use bt_core::items::Items;
+use bpf_interp::code::Code;
 use code_bodies::code_bodies::CodeBodies;
 
 /// What runs the bodies of a job's script by these codes, for one of the actors: the CPUs by their places, and the main actor.
-pub fn bodies_at<'a>(job: &'a Job, codes: &'a [Items<Insn>], actor: u32) -> CodeBodies<'a>
+pub fn bodies_at<'a>(job: &'a Job, codes: &'a [Code], actor: u32) -> CodeBodies<'a>
     requires few { cpus_in job.now + 1 < 2 ^ 32 }
     requires below { actor ≤ cpus_in job.now }
     requires can_run { AllByRecursion CanRunCode codes.now }

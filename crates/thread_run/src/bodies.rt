@@ -6,8 +6,7 @@ ghost use Rattle.code_bodies.specs.Running.{plan_of};
 ghost use Rattle.run_base.specs.Jobs.{cpus_in, plans_by};
 ghost use Rattle.thread_actors.specs.Plans.{HavePlans};
 
-use bpf_insn::insn::Insn;
-use bt_core::items::Items;
+use bpf_interp::code::Code;
 use bt_core::memory::Memory;
 use code_bodies::code_bodies::CodeBodies;
 use run_base::bodies::bodies_at;
@@ -18,7 +17,7 @@ use std::alloc::Global;
 pub(crate) fn all_bodies<'a>(
     alloc: Global,
     job: &'a Job,
-    codes: &'a [Items<Insn>],
+    codes: &'a [Code],
 ) -> Result<Vec<CodeBodies<'a>>, Memory>
     requires few { cpus_in job.now + 1 < 2 ^ 32 }
     requires can_run { AllByRecursion CanRunCode codes.now }

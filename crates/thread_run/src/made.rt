@@ -8,8 +8,7 @@ ghost use Rattle.thread_run.specs.Made.{IsMade};
 use crate::bodies::all_bodies;
 use crate::closed::closed_of;
 use crate::sets::{Sets, new_sets};
-use bpf_insn::insn::Insn;
-use bt_core::items::Items;
+use bpf_interp::code::Code;
 use bt_core::memory::Memory;
 use cpu_worker::world::SharedWorld;
 use run_base::job::Job;
@@ -30,7 +29,7 @@ pub(crate) fn make_steps<G: Gate + Sync, R: Threads + Wait + Sync>(
     rt: &R,
     alloc: Global,
     job: &Job,
-    codes: &[Items<Insn>],
+    codes: &[Code],
     gate: &G,
 ) -> Result<(Closed, Woven, u64), Memory>
     requires can { CanRunAll job.now (plans_by job.now codes.now) }

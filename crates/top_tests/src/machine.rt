@@ -1,9 +1,11 @@
 // The machine on programs that are handed back.
 use bpf_encode::decode::decode;
 use bpf_encode::program::Program;
+use bpf_interp::code::Code;
 use bpf_interp::machine::Machine;
 use bpf_interp::ports::{PortFault, Ports};
 use bpf_interp::regions::Regions;
+use bt_core::items::Items;
 use bt_core::limits::CODE_SLOTS;
 use std::alloc::Global;
 use std::test::Fail;
@@ -46,9 +48,10 @@ pub fn instructions_of(alloc: Global, program: &Program, value: i64) -> Result<u
     }
     let mut payload = [7, 0, 0, 0, 0, 0, 0, 0, 0, 0, 0, 0, 0, 0, 0, 0];
     payload[8..].copy_from_slice(&value.to_le_bytes());
+    let code = Code::of(alloc, Items::of(code))?;
     let ended = Machine::run(
         alloc,
-        code.as_slice(),
+        &code,
         &[0; 128],
         &payload,
         &mut Done,
