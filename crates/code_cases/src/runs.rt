@@ -3,8 +3,9 @@ ghost use Rattle.std.specs.Prelude.{◌≡◌};
 
 use anyhow::{Context, Result, bail};
 use bpf_encode::decode::decode;
+use bpf_interp::Trap;
 use bpf_interp::code::Code;
-use bpf_interp::machine::Machine;
+use bpf_interp::machine::{Ended, Machine};
 use bpf_interp::ports::{PortFault, Ports};
 use bpf_interp::regions::Regions;
 use bt_core::items::Items;
@@ -51,8 +52,8 @@ impl Ports for Watcher {
     }
 }
 
-/// Code over a port that has seen nothing, and whether its run takes all of the fuel.
-fn watched(alloc: Global, digits: &str, fuel: u64) -> Result<(Watcher, bool)> {
+/// Code over a port that has seen nothing, and how its run ends.
+fn watched(alloc: Global, digits: &str, fuel: u64) -> Result<(Watcher, Result<Ended, Trap>)> {
     let bytes = hex::decode(alloc, digits)?;
     if bytes.len() > 10_000 {
         bail!("too long");
@@ -68,8 +69,8 @@ fn watched(alloc: Global, digits: &str, fuel: u64) -> Result<(Watcher, bool)> {
         stack: [0; 32],
     };
     let code = Code::of(alloc, Items::of(code))?;
-    let ended = Machine::run(alloc, &code, &[0; 128], &[7, 0], &mut watcher, fuel)?;
-    Ok((watcher, ended.instructions == fuel))
+    let end = Machine::run(alloc, &code, &[0; 128], &[7, 0], &mut watcher, fuel);
+    Ok((watcher, end))
 }
 
 /// Tells what the last two calls showed.
@@ -84,11 +85,18 @@ fn tell_calls<R: Print + AllocGlobal>(rt: &R, watcher: &Watcher) -> Result<()> {
 }
 
 /// Tells how the code of a line `NAME = FUEL CODE` runs, the fuel in decimals and the code in hexadecimal digits: whether it
-/// takes all its fuel, and what its last two calls showed.
+/// takes all its fuel, or why it stops, and what its last two calls showed.
 pub(crate) fn tell_run<R: Print + AllocGlobal>(rt: &R, line: &str) -> Result<()> {
     let (name, words) = line.split_once(" = ").context("no run")?;
     let (fuel, digits) = words.split_once(" ").context("no code")?;
-    let (watcher, all) = watched(rt.alloc(), digits, fuel.parse::<u64>()?)?;
-    println!(rt; "{name}: all fuel {all}")?;
+    let fuel = fuel.parse::<u64>()?;
+    let (watcher, end) = watched(rt.alloc(), digits, fuel)?;
+    match end {
+        Ok(ended) => {
+            let all = ended.instructions == fuel;
+            println!(rt; "{name}: all fuel {all}")?;
+        }
+        Err(trap) => println!(rt; "{name}: {trap}")?,
+    }
     tell_calls(rt, &watcher)
 }
