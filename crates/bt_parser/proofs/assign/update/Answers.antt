@@ -11,3 +11,9 @@ returns-in_default-update-clause-reads c = λ _. rw (update_is c.args.target (it
 
 pub returns-clause-reads : goal.returns-clause-reads
 returns-clause-reads c = rw (update_is c.args.target (items c.args.tokens.now)) (search rules)
+
+pub skip-requires : goal.skip-requires
+skip-requires c = c.in-Some.ensures.some refl
+
+pub returns-in-Some-clause-shorter : goal.returns-in-Some-clause-shorter
+returns-in-Some-clause-shorter c = c.skip.ensures.shorter
