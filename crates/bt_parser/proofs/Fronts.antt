@@ -1,6 +1,7 @@
 -- The front of tokens, by the list of their classes.
-use Rattle.std.proofs.Common.{◌≡◌, ℕ, zero, suc, ◌<◌, ◌≤◌, Bool, true, false, List, [], ◌∷◌, length, get_or, take, Some, None, refl, sym, ◌∙◌, ap, subst, arith}
-use Rattle.std.specs.Prelude.{ℤ}
+use Rattle.std.proofs.Common.{◌≡◌, ℕ, zero, suc, ◌+◌, ◌^◌, Option, ◌<◌, ◌≤◌, Bool, true, false, List, [], ◌∷◌, length, get_or, take, Some, None, refl, sym, ◌∙◌, ap, subst, arith}
+use Rattle.std.specs.Prelude.{ℤ, IfSome}
+use Rattle.std.proofs.lemmas.List.{length-map, length-take-le}
 use Rattle.bt_lexer.specs.declared.token.Token.{Token}
 use Rattle.bt_lexer.specs.declared.token.TokenKind.{TokenKind}
 use Rattle.bt_lexer.specs.declared.token.TokenKind.TheVariants as kinds
@@ -127,3 +128,18 @@ a_counted (u ∷ rest) now t n left v some e h k l =
     let same_number : kind_number u.kind ≡ n = ap (λ (z : Token). kind_number z.kind) (sym e) ∙ sym k in
     let same_left : items rest ≡ left = ap (λ z. rest_of (items z)) v ∙ sym l in
     subst (λ z. read reads a_number (items z) ≡ Done n left) v (rw is_one (cc (same_left, same_number)))
+
+-- ---- the front that ends behind a token
+
+pub deep_within : (tokens : List Token) (classes : List Class) (found : Option ℕ) (deep : ℕ) → classes ≡ classes_of tokens → found ≡ Some deep
+    → IfSome found (λ place. place < length classes) → deep < length tokens
+deep_within tokens classes found deep e f w =
+    let h : deep < length classes = subst (λ z. IfSome z (λ place. place < length classes)) f w in
+    let same : length classes ≡ length tokens = ap length e ∙ length-map tokens (λ (t : Token). class_of t.kind) in
+    omega (arith, h, same)
+
+pub front_length : (tokens : List Token) (deep : ℕ) → deep < length tokens → length (take (deep + 1) tokens) ≡ deep + 1
+front_length tokens deep h = length-take-le (deep + 1) tokens (omega arith)
+
+pub front_short : (tokens : List Token) (deep : ℕ) → deep < length tokens → length tokens < 2 ^ 32 → length (take (deep + 1) tokens) < 2 ^ 32
+front_short tokens deep h short = omega (arith, front_length tokens deep h)

@@ -1,7 +1,7 @@
 -- Each part of an expression is read by its steps.
-use Rattle.std.proofs.Common.{◌≡◌, ℕ, ◌<◌, Bool, true, false, not, List, [], ◌∷◌, ◌++◌, Result, Ok, Err, refl, sym, ap, ◌∙◌, inl, inr, ◌⊎◌, Option, Some, None, if◌then◌else◌}
+use Rattle.std.proofs.Common.{◌≡◌, ℕ, ◌<◌, ◌≤◌, Bool, true, false, not, List, [], ◌∷◌, ◌++◌, Result, Ok, Err, refl, sym, ap, ◌∙◌, inl, inr, ◌⊎◌, Option, Some, None, if◌then◌else◌}
 use Rattle.std.specs.Prelude.{◌≢◌, IsErr, IsErrAnd, OnOk}
-use Rattle.std.proofs.Math.Nat.{lt_trans}
+use Rattle.std.proofs.Math.Nat.{le_of_lt, lt_trans}
 use Rattle.std.proofs.lemmas.Bool.{false≢true}
 use Rattle.bt_core.specs.Want.{out_of_memory}
 use Rattle.bt_parser.specs.declared.fault.Fault.TheVariants.{OutOfMemory}
@@ -78,6 +78,10 @@ on_err (Err d) P m = tt
 pub shorter_on : {A E : Type 0} (r : Result A E) (c b a : ℕ) → OnOk r (c < b) → b < a → OnOk r (c < a)
 shorter_on (Ok x) c b a h k = lt_trans h k
 shorter_on (Err d) c b a h k = tt
+
+pub no_longer_on : {A E : Type 0} (r : Result A E) (c b : ℕ) → OnOk r (c < b) → OnOk r (c ≤ b)
+no_longer_on (Ok x) c b h = le_of_lt h
+no_longer_on (Err d) c b h = tt
 
 -- a case that cannot be
 pub no_case : {A : Type 0} → false ≡ true → A

@@ -31,8 +31,13 @@ returns-in_err-min-clause-shorter c = on_err _ _ c.from_residual-in_err-min.ensu
 
 pub returns-clause-reads : goal.returns-clause-reads
 returns-clause-reads c =
-    rw (lhist_is (items c.args.tokens.now), c.in_ok-place.ensures.reads, c.in_ok-expect.ensures.reads, c.in_ok-number.ensures.reads,
-    c.in_ok-min.ensures.reads) (search rules)
+    rw (
+      lhist_is (items c.args.tokens.now),
+      c.in_ok-place.ensures.reads,
+      c.in_ok-expect.ensures.reads,
+      c.in_ok-number.ensures.reads,
+      c.in_ok-min.ensures.reads,
+    ) (search rules)
 
 pub returns-clause-shorter : goal.returns-clause-shorter
 returns-clause-shorter c =

@@ -41,10 +41,18 @@ returns-in_err-expect-3-clause-shorter c = on_err _ _ c.from_residual-in_err-exp
 
 pub returns-clause-reads : goal.returns-clause-reads
 returns-clause-reads c =
-    rw (c.in_ok-min.ensures.reads, c.in_ok-expect.ensures.reads, c.in_ok-max.ensures.reads, c.in_ok-expect-2.ensures.reads,
-    c.in_ok-step.ensures.reads, c.in_ok-expect-3.ensures.reads) (search rules)
+    rw (
+      c.in_ok-min.ensures.reads,
+      c.in_ok-expect.ensures.reads,
+      c.in_ok-max.ensures.reads,
+      c.in_ok-expect-2.ensures.reads,
+      c.in_ok-step.ensures.reads,
+      c.in_ok-expect-3.ensures.reads,
+    ) (search rules)
 
 pub returns-clause-shorter : goal.returns-clause-shorter
 returns-clause-shorter c =
-    
-    lt_trans c.in_ok-expect-3.ensures.shorter (lt_trans c.in_ok-step.ensures.shorter (lt_trans c.in_ok-expect-2.ensures.shorter (lt_trans c.in_ok-max.ensures.shorter (lt_trans c.in_ok-expect.ensures.shorter c.in_ok-min.ensures.shorter))))
+    lt_trans c.in_ok-expect-3.ensures.shorter
+    (lt_trans c.in_ok-step.ensures.shorter
+    (lt_trans c.in_ok-expect-2.ensures.shorter
+    (lt_trans c.in_ok-max.ensures.shorter (lt_trans c.in_ok-expect.ensures.shorter c.in_ok-min.ensures.shorter))))

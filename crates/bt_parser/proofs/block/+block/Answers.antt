@@ -34,10 +34,16 @@ pub body-returns-clause-reads : goal.body-returns-clause-reads
 body-returns-clause-reads t c = rw (← c.loop-alloc.invariant.0, body_turns c.loop-alloc.stmts (items c.loop-alloc.tokens), ← c.loop-alloc-test.ensures.class, c.skip.ensures.items) refl
 
 pub body-loop-alloc-preserved : goal.body-loop-alloc-preserved
-body-loop-alloc-preserved t c =
-    (rw (← c.loop-alloc.invariant.0, body_turns c.loop-alloc.stmts (items c.loop-alloc.tokens), ← c.loop-alloc-test.ensures.class,
-    c.in_ok-stmt.ensures.reads, c.in_ok-push.ensures.ok) refl,
-    le_of_lt (lt_of_lt_of_le c.in_ok-stmt.ensures.shorter c.loop-alloc.invariant.1))
+body-loop-alloc-preserved t c = (
+  rw (
+    ← c.loop-alloc.invariant.0,
+    body_turns c.loop-alloc.stmts (items c.loop-alloc.tokens),
+    ← c.loop-alloc-test.ensures.class,
+    c.in_ok-stmt.ensures.reads,
+    c.in_ok-push.ensures.ok,
+  ) refl,
+  le_of_lt (lt_of_lt_of_le c.in_ok-stmt.ensures.shorter c.loop-alloc.invariant.1),
+)
 
 pub branches-returns-in_err-arm-2-clause-reads : goal.branches-returns-in_err-arm-2-clause-reads
 branches-returns-in_err-arm-2-clause-reads t c = refused_reads _ _ _ _ c.from_residual-in_err-arm-2.ensures.1 (λ other. rw (← c.loop-tokens.invariant.0, arms_turns c.loop-tokens.arms (items c.loop-tokens.tokens), ← c.loop-tokens-test.ensures.class, ← c.skip.ensures.items, ← c.skip-in-loop-tokens.ensures.items, c.in_err-arm-2.ensures.reads other) refl)
@@ -49,10 +55,18 @@ pub branches-returns-clause-reads : goal.branches-returns-clause-reads
 branches-returns-clause-reads t c = rw (← c.loop-tokens.invariant.0, arms_turns c.loop-tokens.arms (items c.loop-tokens.tokens), ← c.loop-tokens-test.ensures.class, c.in_ok-otherwise.ensures.reads) refl
 
 pub branches-loop-tokens-preserved : goal.branches-loop-tokens-preserved
-branches-loop-tokens-preserved t c =
-    (rw (← c.loop-tokens.invariant.0, arms_turns c.loop-tokens.arms (items c.loop-tokens.tokens), ← c.loop-tokens-test.ensures.class,
-    ← c.skip.ensures.items, ← c.skip-in-loop-tokens.ensures.items, c.in_ok-arm-2.ensures.reads, c.in_ok-push-2.ensures.ok) refl,
-    lt_trans c.in_ok-arm-2.ensures.shorter (lt_trans c.skip-in-loop-tokens.ensures.shorter (lt_trans c.skip.ensures.shorter c.loop-tokens.invariant.1)))
+branches-loop-tokens-preserved t c = (
+  rw (
+    ← c.loop-tokens.invariant.0,
+    arms_turns c.loop-tokens.arms (items c.loop-tokens.tokens),
+    ← c.loop-tokens-test.ensures.class,
+    ← c.skip.ensures.items,
+    ← c.skip-in-loop-tokens.ensures.items,
+    c.in_ok-arm-2.ensures.reads,
+    c.in_ok-push-2.ensures.ok,
+  ) refl,
+  lt_trans c.in_ok-arm-2.ensures.shorter (lt_trans c.skip-in-loop-tokens.ensures.shorter (lt_trans c.skip.ensures.shorter c.loop-tokens.invariant.1)),
+)
 
 pub control-returns-then-sees-clause-reads : goal.control-returns-then-sees-clause-reads
 control-returns-then-sees-clause-reads t c = rw (control_is (items c.args.tokens.now), ← c.if-sees.ensures.class, ← c.skip-place.ensures.items, ← c.skip-place.ensures.place) c.if_stmt.ensures.reads

@@ -60,10 +60,16 @@ pub level-returns-clause-reads : goal.level-returns-clause-reads
 level-returns-clause-reads t c = rw (← c.loop-class.invariant.0, level_turns c.args.in_predicate c.args.tier c.loop-class.left (items c.loop-class.tokens), ← c.in_default.ensures.class) refl
 
 pub level-loop-class-preserved : goal.level-loop-class-preserved
-level-loop-class-preserved t c =
-    (rw (← c.loop-class.invariant.0, level_turns c.args.in_predicate c.args.tier c.loop-class.left (items c.loop-class.tokens),
-    ← c.in-Some.ensures.class, ← c.skip.ensures.items, c.in_ok-left-2.ensures.reads) refl,
-    lt_trans c.in_ok-left-2.ensures.shorter (lt_trans c.skip.ensures.shorter c.loop-class.invariant.1))
+level-loop-class-preserved t c = (
+  rw (
+    ← c.loop-class.invariant.0,
+    level_turns c.args.in_predicate c.args.tier c.loop-class.left (items c.loop-class.tokens),
+    ← c.in-Some.ensures.class,
+    ← c.skip.ensures.items,
+    c.in_ok-left-2.ensures.reads,
+  ) refl,
+  lt_trans c.in_ok-left-2.ensures.shorter (lt_trans c.skip.ensures.shorter c.loop-class.invariant.1),
+)
 
 pub primary-returns-in_err-map-in-Some-MapName-clause-reads : goal.primary-returns-in_err-map-in-Some-MapName-clause-reads
 primary-returns-in_err-map-in-Some-MapName-clause-reads t c = refused_reads _ _ _ _ c.from_residual.ensures.1 (λ other. rw (primary_is (items c.args.tokens.now), ← c.in-Some-MapName.ensures.class, c.in-Some-MapName.field-0-is, c.in_err-map-in-Some-MapName.ensures.reads other) refl)
@@ -99,10 +105,17 @@ pub values-returns-clause-reads : goal.values-returns-clause-reads
 values-returns-clause-reads t c = rw (← c.loop-alloc.invariant.0, values_turns c.loop-alloc.values (items c.loop-alloc.tokens), ← c.loop-alloc-test.ensures.class) refl
 
 pub values-loop-alloc-preserved : goal.values-loop-alloc-preserved
-values-loop-alloc-preserved t c =
-    (rw (← c.loop-alloc.invariant.0, values_turns c.loop-alloc.values (items c.loop-alloc.tokens), ← c.loop-alloc-test.ensures.class,
-    ← c.skip.ensures.items, c.in_ok-expression-2.ensures.reads, c.in_ok-push-2.ensures.ok) refl,
-    lt_trans c.in_ok-expression-2.ensures.shorter (lt_trans c.skip.ensures.shorter c.loop-alloc.invariant.1))
+values-loop-alloc-preserved t c = (
+  rw (
+    ← c.loop-alloc.invariant.0,
+    values_turns c.loop-alloc.values (items c.loop-alloc.tokens),
+    ← c.loop-alloc-test.ensures.class,
+    ← c.skip.ensures.items,
+    c.in_ok-expression-2.ensures.reads,
+    c.in_ok-push-2.ensures.ok,
+  ) refl,
+  lt_trans c.in_ok-expression-2.ensures.shorter (lt_trans c.skip.ensures.shorter c.loop-alloc.invariant.1),
+)
 
 pub alternatives-returns-in_err-yes-clause-reads : goal.alternatives-returns-in_err-yes-clause-reads
 alternatives-returns-in_err-yes-clause-reads t c = refused_reads _ _ _ _ c.from_residual.ensures.1 (λ other. rw (c.in_err-yes.ensures.reads other) refl)
@@ -223,8 +236,12 @@ stepped-returns-clause-reads t c = rw (c.in_ok-target.ensures.reads, c.step_valu
 
 pub keys-returns-clause-reads : goal.keys-returns-clause-reads
 keys-returns-clause-reads t c =
-    let v = rw c.new-none.ensures at c.in_ok-keys.ensures.reads in rw (← c.if-not-sees.ensures.class, ← c.skip.ensures.items, v,
-    c.in_ok-expect.ensures.reads) refl
+    let v = rw c.new-none.ensures at c.in_ok-keys.ensures.reads in rw (
+      ← c.if-not-sees.ensures.class,
+      ← c.skip.ensures.items,
+      v,
+      c.in_ok-expect.ensures.reads,
+    ) refl
 
 pub keys-returns-then-not-sees-clause-reads : goal.keys-returns-then-not-sees-clause-reads
 keys-returns-then-not-sees-clause-reads t c = rw (← c.if-not-sees.ensures.class, c.new-none.ensures) refl

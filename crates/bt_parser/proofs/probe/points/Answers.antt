@@ -11,23 +11,35 @@ returns-in_err-point-clause-reads c =
 
 pub loop-alloc-init : goal.loop-alloc-init
 loop-alloc-init c = record {
-      read = rw (points_start (items c.args.tokens.now), c.in_ok-point.ensures.reads, c.in_ok-push.ensures.ok, c.new-points.ensures) refl;
-      shorter = c.in_ok-point.ensures.shorter;
-      some = some_pushed _ _ _ c.in_ok-push.ensures.ok;
-    }
+  read = rw (points_start (items c.args.tokens.now), c.in_ok-point.ensures.reads, c.in_ok-push.ensures.ok, c.new-points.ensures) refl;
+  shorter = c.in_ok-point.ensures.shorter;
+  some = some_pushed _ _ _ c.in_ok-push.ensures.ok;
+}
 
 pub returns-in_err-point-2-clause-reads : goal.returns-in_err-point-2-clause-reads
 returns-in_err-point-2-clause-reads c =
     refused_reads _ _ _ _ c.from_residual-in_err-point-2.ensures.1
-    (λ other. rw (← c.loop-alloc.invariant.read, points_turns c.loop-alloc.points (items c.loop-alloc.tokens),
-    ← c.loop-alloc-test.ensures.class, ← c.skip.ensures.items, c.in_err-point-2.ensures.reads other) refl)
+    (λ other. rw (
+      ← c.loop-alloc.invariant.read,
+      points_turns c.loop-alloc.points (items c.loop-alloc.tokens),
+      ← c.loop-alloc-test.ensures.class,
+      ← c.skip.ensures.items,
+      c.in_err-point-2.ensures.reads other,
+    ) refl)
 
 pub loop-alloc-preserved : goal.loop-alloc-preserved
 loop-alloc-preserved c = record {
-      read = rw (← c.loop-alloc.invariant.read, points_turns c.loop-alloc.points (items c.loop-alloc.tokens), ← c.loop-alloc-test.ensures.class, ← c.skip.ensures.items, c.in_ok-point-2.ensures.reads, c.in_ok-push-2.ensures.ok) refl;
-      shorter = lt_trans c.in_ok-point-2.ensures.shorter (lt_trans c.skip.ensures.shorter c.loop-alloc.invariant.shorter);
-      some = some_pushed _ _ _ c.in_ok-push-2.ensures.ok;
-    }
+  read = rw (
+    ← c.loop-alloc.invariant.read,
+    points_turns c.loop-alloc.points (items c.loop-alloc.tokens),
+    ← c.loop-alloc-test.ensures.class,
+    ← c.skip.ensures.items,
+    c.in_ok-point-2.ensures.reads,
+    c.in_ok-push-2.ensures.ok,
+  ) refl;
+  shorter = lt_trans c.in_ok-point-2.ensures.shorter (lt_trans c.skip.ensures.shorter c.loop-alloc.invariant.shorter);
+  some = some_pushed _ _ _ c.in_ok-push-2.ensures.ok;
+}
 
 pub returns-clause-reads : goal.returns-clause-reads
 returns-clause-reads c =

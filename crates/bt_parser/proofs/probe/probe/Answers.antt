@@ -1,4 +1,4 @@
-use Rattle.std.proofs.Common.{refl}
+use Rattle.std.proofs.Common.{refl, sym, length, ◌<◌, subst}
 use Rattle.bt_grammar.specs.Tokens.{items}
 use Rattle.bt_parser.proofs.Probed.{probe_is}
 use Rattle.std.proofs.Math.Nat.{lt_trans}
@@ -16,8 +16,13 @@ returns-in_err-predicate-clause-reads c =
 
 pub returns-clause-reads : goal.returns-clause-reads
 returns-clause-reads c =
-    rw (probe_is (items c.args.tokens.now), c.in_ok-points.ensures.reads, c.in_ok-predicate.ensures.reads,
-    c.place_of_points-place.ensures, c.as_slice.ensures) refl
+    rw (
+      probe_is (items c.args.tokens.now),
+      c.in_ok-points.ensures.reads,
+      c.in_ok-predicate.ensures.reads,
+      c.place_of_points-place.ensures,
+      c.as_slice.ensures,
+    ) refl
 
 pub returns-in_err-points-clause-shorter : goal.returns-in_err-points-clause-shorter
 returns-in_err-points-clause-shorter c = on_err _ _ c.from_residual.ensures.0
@@ -27,3 +32,6 @@ returns-in_err-predicate-clause-shorter c = on_err _ _ c.from_residual-in_err-pr
 
 pub returns-clause-shorter : goal.returns-clause-shorter
 returns-clause-shorter c = lt_trans c.in_ok-predicate.ensures.shorter c.in_ok-points.ensures.shorter
+
+pub place_of_points-place-requires : goal.place_of_points-place-requires
+place_of_points-place-requires c = subst (λ z. 0 < length z) (sym c.as_slice.ensures) c.in_ok-points.ensures.some

@@ -15,8 +15,14 @@ returns-in_default-clause-reads c = rw (simple_is (items c.args.tokens.now), ←
 
 pub returns-clause-reads : goal.returns-clause-reads
 returns-clause-reads c =
-    rw (simple_is (items c.args.tokens.now), ← c.if-sees.ensures.class, ← c.if-sees-2.ensures.class, ← c.in-Some.ensures.class,
-    ← c.skip-place.ensures.items, ← c.skip-place.ensures.place) c.step-2.ensures.reads
+    rw (
+      simple_is (items c.args.tokens.now),
+      ← c.if-sees.ensures.class,
+      ← c.if-sees-2.ensures.class,
+      ← c.in-Some.ensures.class,
+      ← c.skip-place.ensures.items,
+      ← c.skip-place.ensures.place,
+    ) c.step-2.ensures.reads
 
 pub returns-then-sees-clause-shorter : goal.returns-then-sees-clause-shorter
 returns-then-sees-clause-shorter c = c.map_stmt.ensures.shorter

@@ -17,5 +17,6 @@ pub returns-clause-reads : goal.returns-clause-reads
 returns-clause-reads c =
     let e = a_counted c.self.inside.rest.now c.args.self.now c.token-item.result c.number_of-number.result (items c.skip.new.self)
     c.self.view_is c.in-len1-up.len_at_least c.token-item.is
-    (token_class c.self.inside.rest.now c.args.self.now c.token-item.result NumberLiteral c.sees.result c.self.view_is c.in-len1-up.len_at_least c.token-item.is c.if-not-sees.false c.sees.ensures.class)
+    (token_class c.self.inside.rest.now c.args.self.now c.token-item.result NumberLiteral c.sees.result c.self.view_is c.in-len1-up.len_at_least
+    c.token-item.is c.if-not-sees.false c.sees.ensures.class)
     c.number_of-number.ensures c.skip.ensures.items in rw e (search rules)
