@@ -119,6 +119,11 @@ a_named (u ∷ rest) now t k bytes place left v some e h b p l =
     let same_left : items rest ≡ left = ap (λ z. rest_of (items z)) v ∙ sym l in
     subst (λ z. read reads (named_form k) (items z) ≡ Done (record { bytes = bytes; place = place }) left) v (rw is_one (cc (same_place, same_left, same_bytes)))
 
+-- no token is left
+pub no_token : (rest now : List Token) → rest ≡ now → length rest < 1 → now ≡ []
+no_token [] now v none = sym v
+no_token (t ∷ rest) now v none = absurd (omega arith)
+
 -- a number is answered
 pub a_counted : (rest now : List Token) (t : Token) (n : ℤ) (left : List Item) → rest ≡ now → 1 ≤ length rest → t ≡ get_or rest 0 t
     → is NumberLiteral (class_of t.kind) ≡ true → n ≡ kind_number t.kind → left ≡ rest_of (items now) → read reads a_number (items now) ≡ Done n left

@@ -134,10 +134,16 @@ pub level_turns : (p : Bool) (tier : Tier) (left : Expr) (ts : List Item) → le
 level_turns p tier left [] = level_end p tier left
 level_turns p tier left (t ∷ r) = operand_some p tier left t r (joins p tier t.class (brace_next r)) refl
 
+choice_at : (p : Bool) (x : Expr) (t : Item) (r : List Item) (b : Bool) → is Question t.class ≡ b
+    → and_then (read reads (optional (Op (ends Question) (Then pair (Until value Colon) (Call (Expression p))))) (t ∷ r)) (λ y r'. Done (choose x y) r')
+    ≡ choice_by p x (t ∷ r)
+choice_at p x t r true h = rw h (simp and_then_assoc)
+choice_at p x t r false h = rw h refl
+
 choice_is : (p : Bool) (x : Expr) (r : List Item)
     → and_then (read reads (optional (Op (ends Question) (Then pair (Until value Colon) (Call (Expression p))))) r) (λ y r'. Done (choose x y) r') ≡ choice_by p x r
 choice_is p x [] = refl
-choice_is p x (t ∷ r) = choice_then (is Question t.class) _ _ _ ∙ choice (is Question t.class) _ _ _ _ (λ h. rw h (simp and_then_assoc)) (λ h. refl)
+choice_is p x (t ∷ r) = choice_at p x t r (is Question t.class) refl
 
 pub expression_is : (p : Bool) (ts : List Item) → reads (Expression p) ts ≡ expression_by p ts
 expression_is p ts = rw (reads_is (Expression p) ts) (and_then_same (reads (Level p OrElses) ts) _ _ (λ x r. choice_is p x r))

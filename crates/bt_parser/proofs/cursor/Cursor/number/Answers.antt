@@ -1,7 +1,7 @@
 use Rattle.bt_grammar.specs.declared.class.Class.TheVariants.{NumberLiteral}
-use Rattle.bt_parser.proofs.Fronts.{token_class, a_counted}
+use Rattle.bt_parser.proofs.Fronts.{token_class, a_counted, no_token}
 use Rattle.bt_parser.proofs.WordKinds.{number_found}
-use Rattle.std.proofs.Common.{ap, arith, length, ◌≡◌, rules}
+use Rattle.std.proofs.Common.{ap, arith, length, ◌≡◌, rules, refl}
 use Rattle.bt_grammar.specs.Tokens.{items}
 use Rattle.bt_parser.proofs.cursor.Cursor.number.Goals as goal
 
@@ -20,3 +20,6 @@ returns-clause-reads c =
     (token_class c.self.inside.rest.now c.args.self.now c.token-item.result NumberLiteral c.sees.result c.self.view_is c.in-len1-up.len_at_least
     c.token-item.is c.if-not-sees.false c.sees.ensures.class)
     c.number_of-number.ensures c.skip.ensures.items in rw e (search rules)
+
+pub returns-in_default-clause-reads : goal.returns-in_default-clause-reads
+returns-in_default-clause-reads c = λ _. rw (no_token c.self.inside.rest.now c.args.self.now c.self.view_is c.in_default.len_below) refl
