@@ -1,6 +1,7 @@
 -- Each part of a block is read by its steps.
-use Rattle.std.proofs.Common.{◌≡◌, Bool, true, false, List, [], ◌∷◌, ◌++◌, refl, sym, ◌∙◌, ap, append_assoc}
+use Rattle.std.proofs.Common.{◌≡◌, ◌<◌, Bool, true, false, List, [], ◌∷◌, ◌++◌, length, refl, sym, ◌∙◌, ap, append_assoc, arith}
 use Rattle.std.proofs.lemmas.List.{append-nil}
+use Rattle.bt_lexer.specs.declared.token.Token.{Token}
 use Rattle.bt_ast.specs.declared.expr.Expr.{Expr}
 use Rattle.bt_ast.specs.declared.stmt.Block.{Block}
 use Rattle.bt_ast.specs.declared.stmt.Stmt.{Stmt}
@@ -8,8 +9,9 @@ use Rattle.bt_grammar.specs.declared.class.Class.TheVariants.{IfWord, ElseWord, 
 use Rattle.bt_grammar.specs.Classes.{is}
 use Rattle.bt_grammar.specs.Tables.{is_control}
 use Rattle.bt_grammar.specs.Form.{Item, Simple, Arm, Tail, Control, Body, Braced, Form, Or, Then, Map, Call}
-use Rattle.bt_grammar.specs.Reading.{Out, Done, Refused, Unfinished, and_then, read, reads}
+use Rattle.bt_grammar.specs.Reading.{Out, Done, Refused, Unfinished, and_then, read, reads, rest_of}
 use Rattle.bt_grammar.specs.Rules.{rule, mark, in_parens, a_number}
+use Rattle.bt_grammar.specs.Tokens.{items}
 use Rattle.bt_grammar.specs.Trees.{second, nothing}
 use Rattle.bt_parser.specs.Statements.{turns_by, arm_by, arms_on, arms_turn, control_by, body_on, ended, ended_by, body_turn, block_by}
 use Rattle.bt_grammar.proofs.Enough.{reads_is}
@@ -56,6 +58,13 @@ pub arms_turns : (arms : List (Expr × Block)) (ts : List Item) → arms_on arms
 unfolding arms_on
 arms_turns arms [] = rw (reads_is Tail [], append-nil arms) refl
 arms_turns arms (t ∷ r) = arms_by arms t r (is ElseWord t.class) refl
+
+-- a token is left behind the first of two
+pub second_left : (old new : List Token) → items new ≡ rest_of (items old) → 1 < length old → 0 < length new
+second_left [] new e h = absurd (omega arith)
+second_left (t ∷ []) new e h = absurd (omega arith)
+second_left (t ∷ u ∷ r) [] e h = cc (e)
+second_left (t ∷ u ∷ r) (x ∷ new) e h = omega arith
 
 -- ---- the statements of a block
 

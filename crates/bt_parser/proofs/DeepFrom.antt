@@ -2,7 +2,7 @@
 use Rattle.std.proofs.Common.{◌≡◌, ℕ, zero, suc, ◌+◌, ◌<◌, ◌≤◌, Bool, true, false, List, [], ◌∷◌, ◌++◌, length, map, reverse, take, drop, Option, Some, None, refl, sym, ◌∙◌, ap, subst, inl, inr, ◌⊎◌, arith}
 use Rattle.std.specs.Prelude.{nat_lt, if◌then◌else◌}
 use Rattle.std.specs.List.{sum}
-use Rattle.std.proofs.lemmas.List.{length-reverse, reverse-append}
+use Rattle.std.proofs.lemmas.List.{drop_all, length-reverse, reverse-append}
 use Rattle.std.proofs.lemmas.List.Sums.{sum_by-append}
 use Rattle.std.proofs.lemmas.Bool.Decides.{leb_tells}
 use Rattle.bt_core.specs.declared.limits.TheConstants.{NESTING}
@@ -120,3 +120,7 @@ go_on i levels l classes k d e w h = elim (tell l.weight) [
   | inr n ↦ ap (λ z. deep_from (i + 1) z (drop (i + 1) classes)) e ∙ sym (ap (deep_from i levels) d
       ∙ ap (λ b. if b then Some i else deep_from (i + 1) (levels_behind k levels) (drop (i + 1) classes)) (heavy levels l k e w false n.0))
 ]
+
+-- no class is left
+pub past_end : (i : ℕ) (levels : List ℕ) (classes : List Class) → length classes ≤ i → None ≡ deep_from i levels (drop i classes)
+past_end i levels classes h = sym (ap (deep_from i levels) (drop_all i classes h))

@@ -1,16 +1,19 @@
 -- The front of tokens, by the list of their classes.
-use Rattle.std.proofs.Common.{◌≡◌, ℕ, zero, suc, ◌<◌, ◌≤◌, Bool, true, false, List, [], ◌∷◌, length, get_or, take, Some, None, refl, sym, ◌∙◌, ap, subst, arith}
+use Rattle.std.proofs.Common.{◌≡◌, ℕ, zero, suc, ◌+◌, ◌^◌, Option, ◌<◌, ◌≤◌, Bool, true, false, List, [], ◌∷◌, length, get_or, take, Some, None, refl, sym, ◌∙◌, ap, subst, arith}
+use Rattle.std.specs.Prelude.{ℤ, IfSome}
+use Rattle.std.proofs.lemmas.List.{length-map, length-take-le}
 use Rattle.bt_lexer.specs.declared.token.Token.{Token}
 use Rattle.bt_lexer.specs.declared.token.TokenKind.{TokenKind}
 use Rattle.bt_lexer.specs.declared.token.TokenKind.TheVariants as kinds
 use Rattle.bt_grammar.specs.declared.class.Class.{Class}
+use Rattle.bt_grammar.specs.declared.class.Class.TheVariants.{NumberLiteral}
 use Rattle.bt_grammar.specs.declared.class.Tier.{Tier}
 use Rattle.bt_grammar.specs.Classes.{is, is_word, joins}
 use Rattle.bt_grammar.specs.Form.{Item, brace_next, is_brace}
 use Rattle.bt_grammar.specs.Reading.{Done, Refused, read, reads, rest_of, starts}
-use Rattle.bt_grammar.specs.Rules.{ends}
+use Rattle.bt_grammar.specs.Rules.{a_number, ends}
 use Rattle.bt_grammar.specs.Tokens.{class_of, items}
-use Rattle.bt_grammar.specs.Trees.{kind_bytes}
+use Rattle.bt_grammar.specs.Trees.{kind_bytes, kind_number}
 use Rattle.bt_grammar.proofs.KindClasses.{word_is_word}
 use Rattle.bt_parser.specs.ClassLists.{classes_of}
 use Rattle.bt_core.specs.declared.place.Place.{Place}
@@ -115,3 +118,33 @@ a_named (u ∷ rest) now t k bytes place left v some e h b p l =
     let same_place : u.place ≡ place = ap (λ z. front_place (items z)) v ∙ sym p in
     let same_left : items rest ≡ left = ap (λ z. rest_of (items z)) v ∙ sym l in
     subst (λ z. read reads (named_form k) (items z) ≡ Done (record { bytes = bytes; place = place }) left) v (rw is_one (cc (same_place, same_left, same_bytes)))
+
+-- no token is left
+pub no_token : (rest now : List Token) → rest ≡ now → length rest < 1 → now ≡ []
+no_token [] now v none = sym v
+no_token (t ∷ rest) now v none = absurd (omega arith)
+
+-- a number is answered
+pub a_counted : (rest now : List Token) (t : Token) (n : ℤ) (left : List Item) → rest ≡ now → 1 ≤ length rest → t ≡ get_or rest 0 t
+    → is NumberLiteral (class_of t.kind) ≡ true → n ≡ kind_number t.kind → left ≡ rest_of (items now) → read reads a_number (items now) ≡ Done n left
+a_counted [] now t n left v some e h k l = absurd (omega arith)
+a_counted (u ∷ rest) now t n left v some e h k l =
+    let is_one : is NumberLiteral (class_of u.kind) ≡ true = ap (λ (z : Token). is NumberLiteral (class_of z.kind)) (sym e) ∙ h in
+    let same_number : kind_number u.kind ≡ n = ap (λ (z : Token). kind_number z.kind) (sym e) ∙ sym k in
+    let same_left : items rest ≡ left = ap (λ z. rest_of (items z)) v ∙ sym l in
+    subst (λ z. read reads a_number (items z) ≡ Done n left) v (rw is_one (cc (same_left, same_number)))
+
+-- ---- the front that ends behind a token
+
+pub deep_within : (tokens : List Token) (classes : List Class) (found : Option ℕ) (deep : ℕ) → classes ≡ classes_of tokens → found ≡ Some deep
+    → IfSome found (λ place. place < length classes) → deep < length tokens
+deep_within tokens classes found deep e f w =
+    let h : deep < length classes = subst (λ z. IfSome z (λ place. place < length classes)) f w in
+    let same : length classes ≡ length tokens = ap length e ∙ length-map tokens (λ (t : Token). class_of t.kind) in
+    omega (arith, h, same)
+
+pub front_length : (tokens : List Token) (deep : ℕ) → deep < length tokens → length (take (deep + 1) tokens) ≡ deep + 1
+front_length tokens deep h = length-take-le (deep + 1) tokens (omega arith)
+
+pub front_short : (tokens : List Token) (deep : ℕ) → deep < length tokens → length tokens < 2 ^ 32 → length (take (deep + 1) tokens) < 2 ^ 32
+front_short tokens deep h short = omega (arith, front_length tokens deep h)

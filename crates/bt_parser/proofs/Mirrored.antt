@@ -1,6 +1,8 @@
 -- Each part of an expression is read by its steps.
-use Rattle.std.proofs.Common.{◌≡◌, Bool, true, false, not, List, [], ◌∷◌, ◌++◌, Result, Ok, Err, refl, sym, ap, ◌∙◌, inl, inr, ◌⊎◌, Option, Some, None, if◌then◌else◌}
+use Rattle.std.proofs.Common.{◌≡◌, ℕ, ◌<◌, ◌≤◌, Bool, true, false, not, List, [], ◌∷◌, ◌++◌, Result, Ok, Err, refl, sym, ap, ◌∙◌, inl, inr, ◌⊎◌, Option, Some, None, if◌then◌else◌}
 use Rattle.std.specs.Prelude.{◌≢◌, IsErr, IsErrAnd, OnOk}
+use Rattle.std.proofs.Math.Nat.{le_of_lt, lt_trans}
+use Rattle.std.proofs.lemmas.Bool.{false≢true}
 use Rattle.bt_core.specs.Want.{out_of_memory}
 use Rattle.bt_parser.specs.declared.fault.Fault.TheVariants.{OutOfMemory}
 use Rattle.bt_core.specs.declared.operator.UnOp.{UnOp}
@@ -12,7 +14,7 @@ use Rattle.bt_ast.specs.declared.expr.ExprKind.TheVariants as exprs
 use Rattle.bt_ast.specs.declared.expr.MapRef.{MapRef}
 use Rattle.bt_ast.specs.declared.expr.Target.TheVariants as targets
 use Rattle.bt_grammar.specs.declared.class.Class.{Class}
-use Rattle.bt_grammar.specs.declared.class.Class.TheVariants.{Arrow, Dot, Increment, Decrement, MapName, VarName, OpenParen, OpenBracket, CloseBracket, Comma, Question, Colon}
+use Rattle.bt_grammar.specs.declared.class.Class.TheVariants.{NumberLiteral, TextLiteral, Arrow, Dot, Increment, Decrement, MapName, VarName, OpenParen, OpenBracket, CloseBracket, Comma, Question, Colon}
 use Rattle.bt_grammar.specs.declared.class.Tier.{Tier}
 use Rattle.bt_grammar.specs.declared.class.Tier.TheVariants.{Products, Sums, Shifts, Orders, Equalities, BitAnds, BitXors, BitOrs, AndThens, OrElses}
 use Rattle.bt_grammar.specs.Classes.{is, is_step, prefix_of, joins}
@@ -20,12 +22,12 @@ use Rattle.bt_grammar.specs.Form.{Item, brace_next, Primary, Unary, Level, Expre
 use Rattle.bt_grammar.specs.Fine.{FineAt, Led}
 use Rattle.bt_grammar.specs.Tokens.{items}
 use Rattle.bt_grammar.specs.Reading.{Out, Done, Refused, Unfinished, and_then, read, reads, goes_on, starts, rest_of, first, sens, differs}
-use Rattle.bt_grammar.specs.Rules.{rule, mark, ends, optional, after_comma, value, operand, operation}
+use Rattle.bt_grammar.specs.Rules.{rule, a_number, mark, ends, optional, after_comma, value, operand, operation}
 use Rattle.bt_grammar.specs.Trees.{second, snoc, pair, choose, map_ref, map_operand, binary, expr, step_after, var_operand}
 use Rattle.bt_parser.specs.declared.cursor.Named.{Named}
 use Rattle.bt_parser.specs.declared.fault.Fault.{Fault}
 use Rattle.bt_parser.specs.Contract.{Makes, Reads}
-use Rattle.bt_parser.specs.Mirror.{class_at, front_place, operator_at, when, prefix_at, named, operand_by, tighter, level_on, level_by, level_turn, choice_by, expression_by, unary_by, primary_by, keyed_by, map_by, assignable_by, dot_form, field_form, field_by, keys_by, values_on, values_behind, values_turn, plus_of, step_at, step_on, map_value, named_form, var_of, variable_form}
+use Rattle.bt_parser.specs.Mirror.{class_at, front_place, operator_at, when, prefix_at, named, operand_by, tighter, level_on, level_by, level_turn, choice_by, expression_by, unary_by, primary_by, keyed_by, map_by, assignable_by, dot_form, field_form, field_by, keys_by, values_on, values_behind, values_turn, plus_of, step_at, step_on, map_value, named_form, number_form, text_form, var_of, variable_form}
 use Rattle.bt_grammar.proofs.Enough.{reads_is}
 use Rattle.bt_grammar.proofs.Steps.{goes_on_stop, goes_on_more}
 use Rattle.bt_grammar.proofs.Checked.{fine_rule}
@@ -71,6 +73,19 @@ on_ok (Err d) P h = tt
 pub on_err : {A E : Type 0} (r : Result A E) (P : Type 0) → IsErr r → OnOk r P
 on_err (Ok b) P m = cc (m)
 on_err (Err d) P m = tt
+
+-- what a last call leaves is less than what there was before it
+pub shorter_on : {A E : Type 0} (r : Result A E) (c b a : ℕ) → OnOk r (c < b) → b < a → OnOk r (c < a)
+shorter_on (Ok x) c b a h k = lt_trans h k
+shorter_on (Err d) c b a h k = tt
+
+pub no_longer_on : {A E : Type 0} (r : Result A E) (c b : ℕ) → OnOk r (c < b) → OnOk r (c ≤ b)
+no_longer_on (Ok x) c b h = le_of_lt h
+no_longer_on (Err d) c b h = tt
+
+-- a case that cannot be
+pub no_case : {A : Type 0} → false ≡ true → A
+no_case h = absurd (false≢true h)
 
 -- ---- a choice by the next token
 
@@ -119,10 +134,16 @@ pub level_turns : (p : Bool) (tier : Tier) (left : Expr) (ts : List Item) → le
 level_turns p tier left [] = level_end p tier left
 level_turns p tier left (t ∷ r) = operand_some p tier left t r (joins p tier t.class (brace_next r)) refl
 
+choice_at : (p : Bool) (x : Expr) (t : Item) (r : List Item) (b : Bool) → is Question t.class ≡ b
+    → and_then (read reads (optional (Op (ends Question) (Then pair (Until value Colon) (Call (Expression p))))) (t ∷ r)) (λ y r'. Done (choose x y) r')
+    ≡ choice_by p x (t ∷ r)
+choice_at p x t r true h = rw h (simp and_then_assoc)
+choice_at p x t r false h = rw h refl
+
 choice_is : (p : Bool) (x : Expr) (r : List Item)
     → and_then (read reads (optional (Op (ends Question) (Then pair (Until value Colon) (Call (Expression p))))) r) (λ y r'. Done (choose x y) r') ≡ choice_by p x r
 choice_is p x [] = refl
-choice_is p x (t ∷ r) = choice_then (is Question t.class) _ _ _ ∙ choice (is Question t.class) _ _ _ _ (λ h. rw h (simp and_then_assoc)) (λ h. refl)
+choice_is p x (t ∷ r) = choice_at p x t r (is Question t.class) refl
 
 pub expression_is : (p : Bool) (ts : List Item) → reads (Expression p) ts ≡ expression_by p ts
 expression_is p ts = rw (reads_is (Expression p) ts) (and_then_same (reads (Level p OrElses) ts) _ _ (λ x r. choice_is p x r))
@@ -169,7 +190,7 @@ comma_stop : (values : List Expr) (ts : List Item) → starts (ends Comma) ts �
 comma_stop values ts h = goes_on_stop snoc (after_comma value) (fine_rule Values).1 calm_comma refl values ts h
 
 comma_more : (values : List Expr) (ts : List Item) → starts (ends Comma) ts ≡ true → values_on values ts ≡ and_then (reads (Expression false) (rest_of ts)) (λ x r. values_on (values ++ x ∷ []) r)
-comma_more values [] h = cc
+comma_more values [] h = no_case h
 comma_more values (t ∷ r) h = goes_on_more snoc (after_comma value) (fine_rule Values).1 calm_comma refl values (t ∷ r) h ∙ rw h (simp and_then_assoc)
 
 pub values_turns : (values : List Expr) (ts : List Item) → values_on values ts ≡ values_turn values ts
@@ -232,6 +253,20 @@ primary_at _ k p r = refl
 pub primary_is : (ts : List Item) → reads Primary ts ≡ primary_by (class_at ts) ts
 primary_is [] = reads_is Primary []
 primary_is (t ∷ r) = rw (reads_is Primary (t ∷ r)) (primary_at t.class t.kind t.place r)
+
+-- ---- literals
+
+pub number_read : (ts : List Item) → read reads number_form ts ≡ and_then (read reads a_number ts) (λ n r. Done (expr (exprs.Number n) (front_place ts)) r)
+number_read [] = refl
+number_read (t ∷ r) = by_number (is NumberLiteral t.class) refl
+  where
+    by_number : (b : Bool) → is NumberLiteral t.class ≡ b
+        → read reads number_form (t ∷ r) ≡ and_then (read reads a_number (t ∷ r)) (λ n r1. Done (expr (exprs.Number n) (front_place (t ∷ r))) r1)
+    by_number true h = rw h refl
+    by_number false h = rw h refl
+
+pub text_is : (ts : List Item) → read reads text_form ts ≡ and_then (read reads (named_form TextLiteral) ts) (λ n r. Done (expr (exprs.Text n.bytes) n.place) r)
+text_is ts = simp and_then_assoc
 
 -- ---- fields
 

@@ -1,5 +1,5 @@
 -- Each part of a probe is read by its steps.
-use Rattle.std.proofs.Common.{◌≡◌, Bool, true, false, List, [], ◌∷◌, ◌++◌, refl, sym, ◌∙◌, inr, ◌⊎◌}
+use Rattle.std.proofs.Common.{◌≡◌, ◌<◌, Bool, true, false, List, [], ◌∷◌, ◌++◌, length, refl, sym, ◌∙◌, inr, ◌⊎◌, arith, length-append}
 use Rattle.bt_ast.specs.declared.probe.Point.{Point}
 use Rattle.bt_grammar.specs.declared.class.Class.{Class}
 use Rattle.bt_core.specs.declared.operator.BinOp.TheVariants.{Div}
@@ -14,7 +14,7 @@ use Rattle.bt_parser.specs.Probes.{point_form, points_on, points_by, points_turn
 use Rattle.bt_grammar.proofs.Enough.{reads_is}
 use Rattle.bt_grammar.proofs.Steps.{goes_on_stop, goes_on_more}
 use Rattle.bt_grammar.proofs.Checked.{fine_rule}
-use Rattle.bt_parser.proofs.Mirrored.{and_then_assoc, same_twice}
+use Rattle.bt_parser.proofs.Mirrored.{and_then_assoc, no_case, same_twice}
 
 pub points_start : (ts : List Item) → reads Points ts ≡ points_by ts
 unfolding goes_on
@@ -27,7 +27,7 @@ point_stop : (points : List Point) (ts : List Item) → starts (ends Comma) ts �
 point_stop points ts h = goes_on_stop snoc (after_comma point_form) (fine_rule Points).1 calm_point refl points ts h
 
 point_more : (points : List Point) (ts : List Item) → starts (ends Comma) ts ≡ true → points_on points ts ≡ and_then (read reads point_form (rest_of ts)) (λ p r. points_on (points ++ p ∷ []) r)
-point_more points [] h = cc
+point_more points [] h = no_case h
 point_more points (t ∷ r) h = goes_on_more snoc (after_comma point_form) (fine_rule Points).1 calm_point refl points (t ∷ r) h ∙ rw h (simp and_then_assoc)
 
 pub points_turns : (points : List Point) (ts : List Item) → points_on points ts ≡ points_turn points ts
@@ -47,3 +47,7 @@ predicate_is (t ∷ r) = predicate_at t r (is (Operator Div) t.class) refl
 
 pub probe_is : (ts : List Item) → reads OneProbe ts ≡ probe_by ts
 probe_is ts = rw (reads_is OneProbe ts) (simp and_then_assoc)
+
+-- a list has some item behind a push
+pub some_pushed : (new old : List Point) (point : Point) → new ≡ old ++ point ∷ [] → 0 < length new
+some_pushed new old point e = rw e (omega (arith, length-append old (point ∷ [])))

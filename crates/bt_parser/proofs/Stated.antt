@@ -7,10 +7,10 @@ use Rattle.bt_ast.specs.declared.expr.Target.{Target}
 use Rattle.bt_ast.specs.declared.expr.VarRef.{VarRef}
 use Rattle.bt_ast.specs.declared.stmt.StmtKind.{StmtKind}
 use Rattle.bt_core.specs.declared.operator.BinOp.{BinOp}
-use Rattle.bt_core.specs.declared.operator.BinOp.TheVariants.{Add, Sub, Mul, Div, Mod, Shl, Shr, BitAnd, BitOr, BitXor}
+use Rattle.bt_core.specs.declared.operator.BinOp.TheVariants.{Sub}
 use Rattle.bt_grammar.specs.declared.class.Class.{Class}
 use Rattle.bt_grammar.specs.declared.class.Class.TheVariants.{CountWord, LhistWord, PrintfWord, PrintWord, ClearWord, ZeroWord, DeleteWord, ExitWord, BreakWord, ContinueWord, ReturnWord, MapName, VarName, OpenParen, CloseParen, OpenBracket, CloseBracket, Comma, Assign, Increment, Decrement, GatherWord, Operator, UpdateMark}
-use Rattle.bt_grammar.specs.Classes.{is, is_step, gathering_of}
+use Rattle.bt_grammar.specs.Classes.{compares, is, is_step, gathering_of}
 use Rattle.bt_grammar.specs.Form.{Item, Values, Int, Aggregation, Update, AfterMap, AfterVar, Printf, Print, Delete, CallOrJump, Simple, Assignable, Form, Tok, Call, Map, Then, Or, Until}
 use Rattle.bt_grammar.specs.Reading.{Out, Done, Refused, Unfinished, and_then, read, reads, starts, goes_on}
 use Rattle.bt_grammar.specs.Rules.{rule, mark, ends, in_parens, value}
@@ -65,20 +65,13 @@ aggregation_is (t ∷ r) = rw (reads_is Aggregation (t ∷ r)) (aggregation_at t
 
 update_kind : (target : Target) (c : Class) (k : TokenKind) (p : Place) (r : List Item)
     → given target (read reads (rule Update) (it c k p ∷ r)) ≡ update_by target (step_at (it c k p ∷ r)) (update_at (it c k p ∷ r)) (it c k p ∷ r)
-update_kind target (UpdateMark op) k p r = update_of_mark op
+update_kind target (UpdateMark op) k p r = by_operator (compares op) refl
   where
-    update_of_mark : (o : BinOp) → given target (read reads (rule Update) (it (UpdateMark o) k p ∷ r)) ≡ update_by target None (update_at (it (UpdateMark o) k p ∷ r)) (it (UpdateMark o) k p ∷ r)
-    update_of_mark Add = simp and_then_assoc
-    update_of_mark Sub = simp and_then_assoc
-    update_of_mark Mul = simp and_then_assoc
-    update_of_mark Div = simp and_then_assoc
-    update_of_mark Mod = simp and_then_assoc
-    update_of_mark Shl = simp and_then_assoc
-    update_of_mark Shr = simp and_then_assoc
-    update_of_mark BitAnd = simp and_then_assoc
-    update_of_mark BitOr = simp and_then_assoc
-    update_of_mark BitXor = simp and_then_assoc
-    update_of_mark _ = refl
+    by_operator : (b : Bool) → compares op ≡ b
+        → given target (read reads (rule Update) (it (UpdateMark op) k p ∷ r))
+        ≡ update_by target None (update_at (it (UpdateMark op) k p ∷ r)) (it (UpdateMark op) k p ∷ r)
+    by_operator true h = rw h refl
+    by_operator false h = rw h (simp (h, and_then_assoc))
 update_kind target Increment k p r = refl
 update_kind target Decrement k p r = refl
 update_kind target _ k p r = refl

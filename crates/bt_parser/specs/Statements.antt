@@ -16,7 +16,7 @@ use Rattle.bt_ast.specs.declared.stmt.StmtKind.TheVariants as stmts
 use Rattle.bt_parser.specs.declared.agg.Bounds.{Bounds}
 use Rattle.bt_ast.specs.declared.gathering.Gathering.{Gathering}
 use Rattle.bt_grammar.specs.declared.class.Class.{Class}
-use Rattle.bt_grammar.specs.declared.class.Class.TheVariants.{IfWord, ElseWord, WhileWord, UnrollWord, CountWord, LhistWord, PrintfWord, PrintWord, ClearWord, ZeroWord, DeleteWord, ExitWord, BreakWord, ContinueWord, MapName, VarName, TextLiteral, OpenBrace, CloseBrace, OpenParen, CloseParen, OpenBracket, CloseBracket, Comma, Semicolon, Assign, Increment, Decrement}
+use Rattle.bt_grammar.specs.declared.class.Class.TheVariants.{IfWord, ElseWord, WhileWord, UnrollWord, CountWord, LhistWord, PrintfWord, PrintWord, ClearWord, ZeroWord, DeleteWord, ExitWord, BreakWord, ContinueWord, MapName, VarName, TextLiteral, OpenBrace, CloseBrace, OpenParen, CloseParen, OpenBracket, CloseBracket, Comma, Semicolon, Assign}
 use Rattle.bt_parser.specs.declared.cursor.Named.{Named}
 use Rattle.bt_grammar.specs.Classes.{is, gathering_of, gathers, update_of}
 use Rattle.bt_grammar.specs.Tables.{is_call, is_control, fst_of}

@@ -2,6 +2,7 @@ use Rattle.std.proofs.Common.{refl}
 use Rattle.bt_grammar.specs.Tokens.{items}
 use Rattle.bt_parser.proofs.Mirrored.{on_err, refused_reads}
 use Rattle.bt_parser.proofs.Stated.{gather_is}
+use Rattle.std.proofs.Math.Nat.{lt_trans}
 use Rattle.bt_parser.proofs.agg.gather.Goals as goal
 
 pub returns-in_default-clause-reads : goal.returns-in_default-clause-reads
@@ -15,3 +16,9 @@ returns-in_err-number-clause-shorter c = on_err _ _ c.from_residual.ensures.0
 
 pub returns-clause-reads : goal.returns-clause-reads
 returns-clause-reads c = rw (gather_is (items c.args.tokens.now), ← c.in-Some.ensures.class, ← c.skip-place.ensures.items, ← c.skip-place.ensures.place, c.in_ok-number.ensures.reads) refl
+
+pub skip-place-requires : goal.skip-place-requires
+skip-place-requires c = c.in-Some.ensures.some refl
+
+pub returns-clause-shorter : goal.returns-clause-shorter
+returns-clause-shorter c = lt_trans c.in_ok-number.ensures.shorter c.skip-place.ensures.shorter

@@ -1,6 +1,6 @@
 use Rattle.std.proofs.Common.{refl}
 use Rattle.bt_grammar.specs.Tokens.{items}
-use Rattle.bt_parser.proofs.Mirrored.{on_err, refused_reads}
+use Rattle.bt_parser.proofs.Mirrored.{on_err, refused_reads, shorter_on}
 use Rattle.bt_parser.proofs.Stated.{parens_is}
 use Rattle.bt_parser.proofs.agg.in_parens.Goals as goal
 
@@ -12,3 +12,6 @@ returns-in_err-expect-clause-shorter c = on_err _ _ c.from_residual.ensures.0
 
 pub returns-clause-reads : goal.returns-clause-reads
 returns-clause-reads c = rw (parens_is (items c.args.tokens.now), c.in_ok-expect.ensures.reads) c.value_until.ensures.reads
+
+pub returns-clause-shorter : goal.returns-clause-shorter
+returns-clause-shorter c = shorter_on _ _ _ _ c.value_until.ensures.shorter c.in_ok-expect.ensures.shorter

@@ -1,5 +1,6 @@
 use Rattle.std.proofs.Common.{refl, rules}
 use Rattle.bt_parser.proofs.Mirrored.{on_err, refused_reads}
+use Rattle.std.proofs.Math.Nat.{lt_trans}
 use Rattle.bt_parser.proofs.agg.read_bounds.Goals as goal
 
 pub returns-in_err-min-clause-reads : goal.returns-in_err-min-clause-reads
@@ -39,4 +40,19 @@ pub returns-in_err-expect-3-clause-shorter : goal.returns-in_err-expect-3-clause
 returns-in_err-expect-3-clause-shorter c = on_err _ _ c.from_residual-in_err-expect-3.ensures.0
 
 pub returns-clause-reads : goal.returns-clause-reads
-returns-clause-reads c = rw (c.in_ok-min.ensures.reads, c.in_ok-expect.ensures.reads, c.in_ok-max.ensures.reads, c.in_ok-expect-2.ensures.reads, c.in_ok-step.ensures.reads, c.in_ok-expect-3.ensures.reads) (search rules)
+returns-clause-reads c =
+    rw (
+      c.in_ok-min.ensures.reads,
+      c.in_ok-expect.ensures.reads,
+      c.in_ok-max.ensures.reads,
+      c.in_ok-expect-2.ensures.reads,
+      c.in_ok-step.ensures.reads,
+      c.in_ok-expect-3.ensures.reads,
+    ) (search rules)
+
+pub returns-clause-shorter : goal.returns-clause-shorter
+returns-clause-shorter c =
+    lt_trans c.in_ok-expect-3.ensures.shorter
+    (lt_trans c.in_ok-step.ensures.shorter
+    (lt_trans c.in_ok-expect-2.ensures.shorter
+    (lt_trans c.in_ok-max.ensures.shorter (lt_trans c.in_ok-expect.ensures.shorter c.in_ok-min.ensures.shorter))))

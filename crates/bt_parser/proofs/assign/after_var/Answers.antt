@@ -1,5 +1,7 @@
 use Rattle.bt_grammar.specs.Tokens.{items}
 use Rattle.bt_parser.proofs.Stated.{after_var_is}
+use Rattle.std.proofs.Common.{refl}
+use Rattle.bt_parser.proofs.Mirrored.{shorter_on}
 use Rattle.bt_parser.proofs.assign.after_var.Goals as goal
 
 pub returns-then-not-sees-clause-reads : goal.returns-then-not-sees-clause-reads
@@ -7,3 +9,12 @@ returns-then-not-sees-clause-reads c = rw (after_var_is c.args.var (items c.args
 
 pub returns-clause-reads : goal.returns-clause-reads
 returns-clause-reads c = rw (after_var_is c.args.var (items c.args.tokens.now), ← c.if-not-sees.ensures.class, ← c.skip.ensures.items) c.assign.ensures.reads
+
+pub skip-requires : goal.skip-requires
+skip-requires c = c.if-not-sees.ensures.some refl
+
+pub returns-clause-shorter : goal.returns-clause-shorter
+returns-clause-shorter c = shorter_on _ _ _ _ c.assign.ensures.shorter c.skip.ensures.shorter
+
+pub returns-then-not-sees-clause-shorter : goal.returns-then-not-sees-clause-shorter
+returns-then-not-sees-clause-shorter c = c.update.ensures.shorter

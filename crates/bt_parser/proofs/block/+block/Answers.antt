@@ -1,8 +1,9 @@
 use Rattle.std.proofs.Common.{refl, rules, arith}
 use Rattle.std.proofs.lemmas.Grind.{common_steps}
 use Rattle.bt_grammar.specs.Tokens.{items}
-use Rattle.bt_parser.proofs.Blocks.{arm_is, arms_turns, block_is, body_start, body_turns, control_is}
-use Rattle.bt_parser.proofs.Mirrored.{on_err, refused_reads}
+use Rattle.bt_parser.proofs.Blocks.{arm_is, arms_turns, block_is, body_start, body_turns, control_is, second_left}
+use Rattle.bt_parser.proofs.Mirrored.{on_err, refused_reads, shorter_on}
+use Rattle.std.proofs.Math.Nat.{lt_trans, le_of_lt, lt_of_le_of_lt, lt_of_lt_of_le}
 use Rattle.bt_parser.proofs.block.+block.Goals as goal
 
 pub arm-returns-in_err-condition-clause-reads : goal.arm-returns-in_err-condition-clause-reads
@@ -33,7 +34,16 @@ pub body-returns-clause-reads : goal.body-returns-clause-reads
 body-returns-clause-reads t c = rw (← c.loop-alloc.invariant.0, body_turns c.loop-alloc.stmts (items c.loop-alloc.tokens), ← c.loop-alloc-test.ensures.class, c.skip.ensures.items) refl
 
 pub body-loop-alloc-preserved : goal.body-loop-alloc-preserved
-body-loop-alloc-preserved t c = let e = body_turns c.loop-alloc.stmts (items c.loop-alloc.tokens) in (rw (← c.loop-alloc.invariant.0) (first_of (search rules, grind (arith, common_steps))), (first_of (search rules, grind (arith, common_steps))))
+body-loop-alloc-preserved t c = (
+  rw (
+    ← c.loop-alloc.invariant.0,
+    body_turns c.loop-alloc.stmts (items c.loop-alloc.tokens),
+    ← c.loop-alloc-test.ensures.class,
+    c.in_ok-stmt.ensures.reads,
+    c.in_ok-push.ensures.ok,
+  ) refl,
+  le_of_lt (lt_of_lt_of_le c.in_ok-stmt.ensures.shorter c.loop-alloc.invariant.1),
+)
 
 pub branches-returns-in_err-arm-2-clause-reads : goal.branches-returns-in_err-arm-2-clause-reads
 branches-returns-in_err-arm-2-clause-reads t c = refused_reads _ _ _ _ c.from_residual-in_err-arm-2.ensures.1 (λ other. rw (← c.loop-tokens.invariant.0, arms_turns c.loop-tokens.arms (items c.loop-tokens.tokens), ← c.loop-tokens-test.ensures.class, ← c.skip.ensures.items, ← c.skip-in-loop-tokens.ensures.items, c.in_err-arm-2.ensures.reads other) refl)
@@ -45,7 +55,18 @@ pub branches-returns-clause-reads : goal.branches-returns-clause-reads
 branches-returns-clause-reads t c = rw (← c.loop-tokens.invariant.0, arms_turns c.loop-tokens.arms (items c.loop-tokens.tokens), ← c.loop-tokens-test.ensures.class, c.in_ok-otherwise.ensures.reads) refl
 
 pub branches-loop-tokens-preserved : goal.branches-loop-tokens-preserved
-branches-loop-tokens-preserved t c = let e = arms_turns c.loop-tokens.arms (items c.loop-tokens.tokens) in (rw (← c.loop-tokens.invariant.0) (first_of (search rules, grind (arith, common_steps))), (first_of (search rules, grind (arith, common_steps))))
+branches-loop-tokens-preserved t c = (
+  rw (
+    ← c.loop-tokens.invariant.0,
+    arms_turns c.loop-tokens.arms (items c.loop-tokens.tokens),
+    ← c.loop-tokens-test.ensures.class,
+    ← c.skip.ensures.items,
+    ← c.skip-in-loop-tokens.ensures.items,
+    c.in_ok-arm-2.ensures.reads,
+    c.in_ok-push-2.ensures.ok,
+  ) refl,
+  lt_trans c.in_ok-arm-2.ensures.shorter (lt_trans c.skip-in-loop-tokens.ensures.shorter (lt_trans c.skip.ensures.shorter c.loop-tokens.invariant.1)),
+)
 
 pub control-returns-then-sees-clause-reads : goal.control-returns-then-sees-clause-reads
 control-returns-then-sees-clause-reads t c = rw (control_is (items c.args.tokens.now), ← c.if-sees.ensures.class, ← c.skip-place.ensures.items, ← c.skip-place.ensures.place) c.if_stmt.ensures.reads
@@ -121,3 +142,72 @@ unroll-returns-in_err-block-clause-reads t c = refused_reads _ _ _ _ c.from_resi
 
 pub unroll-returns-in_err-block-clause-shorter : goal.unroll-returns-in_err-block-clause-shorter
 unroll-returns-in_err-block-clause-shorter t c = on_err _ _ c.from_residual-in_err-block.ensures.0
+
+pub branches-skip-requires : goal.branches-skip-requires
+branches-skip-requires t c = le_of_lt (c.loop-tokens-test.ensures.some refl)
+
+pub branches-skip-requires-in-loop-tokens : goal.branches-skip-requires-in-loop-tokens
+branches-skip-requires-in-loop-tokens t c = second_left c.loop-tokens.tokens c.skip.new.self c.skip.ensures.items (c.loop-tokens-test.ensures.some refl)
+
+pub unroll-returns-clause-reads : goal.unroll-returns-clause-reads
+unroll-returns-clause-reads t c = rw (c.in_ok-place.ensures.reads, c.in_ok-turns.ensures.reads, c.in_ok-block.ensures.reads) (search rules)
+
+pub unroll-returns-clause-shorter : goal.unroll-returns-clause-shorter
+unroll-returns-clause-shorter t c = lt_trans c.in_ok-block.ensures.shorter (lt_trans c.in_ok-turns.ensures.shorter c.in_ok-place.ensures.shorter)
+
+pub while_stmt-returns-clause-reads : goal.while_stmt-returns-clause-reads
+while_stmt-returns-clause-reads t c = rw (c.in_ok-condition.ensures.reads) refl
+
+pub while_stmt-returns-clause-shorter : goal.while_stmt-returns-clause-shorter
+while_stmt-returns-clause-shorter t c = c.in_ok-condition.ensures.shorter
+
+pub if_stmt-returns-clause-shorter : goal.if_stmt-returns-clause-shorter
+if_stmt-returns-clause-shorter t c = c.in_ok-kind.ensures.shorter
+
+pub control-skip-place-requires : goal.control-skip-place-requires
+control-skip-place-requires t c = c.if-sees.ensures.some refl
+
+pub control-skip-place-requires-then-sees-2 : goal.control-skip-place-requires-then-sees-2
+control-skip-place-requires-then-sees-2 t c = c.if-sees-2.ensures.some refl
+
+pub control-returns-then-sees-clause-shorter : goal.control-returns-then-sees-clause-shorter
+control-returns-then-sees-clause-shorter t c = shorter_on _ _ _ _ c.if_stmt.ensures.shorter c.skip-place.ensures.shorter
+
+pub control-returns-then-sees-2-clause-shorter : goal.control-returns-then-sees-2-clause-shorter
+control-returns-then-sees-2-clause-shorter t c = shorter_on _ _ _ _ c.while_stmt.ensures.shorter c.skip-place-then-sees-2.ensures.shorter
+
+pub body-skip-requires : goal.body-skip-requires
+body-skip-requires t c = c.loop-alloc-test.ensures.some refl
+
+pub otherwise-skip-requires : goal.otherwise-skip-requires
+otherwise-skip-requires t c = c.if-not-sees.ensures.some refl
+
+pub stmt-returns-then-begins_control-clause-reads : goal.stmt-returns-then-begins_control-clause-reads
+stmt-returns-then-begins_control-clause-reads t c = rw (← c.if-begins_control.ensures) c.control.ensures.reads
+
+pub stmt-returns-else-begins_control-clause-reads : goal.stmt-returns-else-begins_control-clause-reads
+stmt-returns-else-begins_control-clause-reads t c = rw (← c.if-begins_control.ensures) c.ended.ensures.reads
+
+pub body-loop-alloc-smaller : goal.body-loop-alloc-smaller
+body-loop-alloc-smaller t c = c.in_ok-stmt.ensures.shorter
+
+pub branches-loop-tokens-smaller : goal.branches-loop-tokens-smaller
+branches-loop-tokens-smaller t c = lt_trans c.in_ok-arm-2.ensures.shorter (lt_trans c.skip-in-loop-tokens.ensures.shorter c.skip.ensures.shorter)
+
+pub branches-returns-clause-shorter : goal.branches-returns-clause-shorter
+branches-returns-clause-shorter t c = lt_of_le_of_lt c.in_ok-otherwise.ensures.no_longer c.loop-tokens.invariant.1
+
+pub body-returns-clause-shorter : goal.body-returns-clause-shorter
+body-returns-clause-shorter t c = lt_of_lt_of_le c.skip.ensures.shorter c.loop-alloc.invariant.1
+
+pub arm-returns-clause-shorter : goal.arm-returns-clause-shorter
+arm-returns-clause-shorter t c = lt_trans c.in_ok-block.ensures.shorter c.in_ok-condition.ensures.shorter
+
+pub otherwise-returns-clause-no_longer : goal.otherwise-returns-clause-no_longer
+otherwise-returns-clause-no_longer t c = le_of_lt (lt_trans c.in_ok-block.ensures.shorter c.skip.ensures.shorter)
+
+pub block-returns-clause-shorter : goal.block-returns-clause-shorter
+block-returns-clause-shorter t c = lt_trans c.in_ok-stmts.ensures.shorter c.in_ok-place.ensures.shorter
+
+pub branches-loop-tokens-init : goal.branches-loop-tokens-init
+branches-loop-tokens-init t c = (rw (c.in_ok-arm.ensures.reads, c.in_ok-push.ensures.ok, c.new-arms.ensures) refl, c.in_ok-arm.ensures.shorter)

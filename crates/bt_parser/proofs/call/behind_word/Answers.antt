@@ -1,4 +1,5 @@
 use Rattle.std.proofs.Common.{refl}
+use Rattle.bt_parser.proofs.Mirrored.{no_longer_on}
 use Rattle.bt_parser.proofs.call.behind_word.Goals as goal
 
 pub returns-in-PrintfWord-clause-reads : goal.returns-in-PrintfWord-clause-reads
@@ -27,3 +28,21 @@ returns-in-ContinueWord-clause-reads c = rw c.in-ContinueWord.is refl
 
 pub returns-in-ReturnWord-clause-reads : goal.returns-in-ReturnWord-clause-reads
 returns-in-ReturnWord-clause-reads c = rw c.in-ReturnWord.is refl
+
+pub returns-in-PrintfWord-clause-no_longer : goal.returns-in-PrintfWord-clause-no_longer
+returns-in-PrintfWord-clause-no_longer c = no_longer_on _ _ _ c.printf.ensures.shorter
+
+pub returns-in-PrintWord-clause-no_longer : goal.returns-in-PrintWord-clause-no_longer
+returns-in-PrintWord-clause-no_longer c = no_longer_on _ _ _ c.print.ensures.shorter
+
+pub returns-in-ClearWord-clause-no_longer : goal.returns-in-ClearWord-clause-no_longer
+returns-in-ClearWord-clause-no_longer c = no_longer_on _ _ _ c.clear.ensures.shorter
+
+pub returns-in-ZeroWord-clause-no_longer : goal.returns-in-ZeroWord-clause-no_longer
+returns-in-ZeroWord-clause-no_longer c = no_longer_on _ _ _ c.zero.ensures.shorter
+
+pub returns-in-DeleteWord-clause-no_longer : goal.returns-in-DeleteWord-clause-no_longer
+returns-in-DeleteWord-clause-no_longer c = no_longer_on _ _ _ c.delete.ensures.shorter
+
+pub returns-in-ExitWord-clause-no_longer : goal.returns-in-ExitWord-clause-no_longer
+returns-in-ExitWord-clause-no_longer c = no_longer_on _ _ _ c.exit.ensures.shorter

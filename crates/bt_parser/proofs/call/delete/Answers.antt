@@ -1,7 +1,8 @@
 use Rattle.std.proofs.Common.{refl}
 use Rattle.bt_grammar.specs.Tokens.{items}
-use Rattle.bt_parser.proofs.Mirrored.{on_err, refused_reads}
+use Rattle.bt_parser.proofs.Mirrored.{on_err, refused_reads, shorter_on}
 use Rattle.bt_parser.proofs.Stated.{delete_is}
+use Rattle.std.proofs.Math.Nat.{lt_trans}
 use Rattle.bt_parser.proofs.call.delete.Goals as goal
 
 pub returns-in_err-expect-clause-reads : goal.returns-in_err-expect-clause-reads
@@ -18,3 +19,6 @@ returns-in_err-bytes-clause-shorter c = on_err _ _ c.from_residual-in_err-bytes.
 
 pub returns-clause-reads : goal.returns-clause-reads
 returns-clause-reads c = rw (delete_is (items c.args.tokens.now), c.in_ok-expect.ensures.reads, c.in_ok-bytes.ensures.reads) c.delete_rest.ensures.reads
+
+pub returns-clause-shorter : goal.returns-clause-shorter
+returns-clause-shorter c = shorter_on _ _ _ _ c.delete_rest.ensures.shorter (lt_trans c.in_ok-bytes.ensures.shorter c.in_ok-expect.ensures.shorter)

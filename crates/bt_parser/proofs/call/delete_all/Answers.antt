@@ -1,4 +1,4 @@
-use Rattle.std.proofs.Common.{refl, rules}
+use Rattle.std.proofs.Common.{refl}
 use Rattle.bt_parser.proofs.Mirrored.{on_err, refused_reads}
 use Rattle.bt_parser.proofs.call.delete_all.Goals as goal
 
@@ -9,4 +9,7 @@ pub returns-in_err-expect-clause-shorter : goal.returns-in_err-expect-clause-sho
 returns-in_err-expect-clause-shorter c = on_err _ _ c.from_residual.ensures.0
 
 pub returns-clause-reads : goal.returns-clause-reads
-returns-clause-reads c = rw c.in_ok-expect.ensures.reads (search rules)
+returns-clause-reads c = rw (c.in_ok-expect.ensures.reads, c.named_map.ensures) refl
+
+pub returns-clause-shorter : goal.returns-clause-shorter
+returns-clause-shorter c = c.in_ok-expect.ensures.shorter

@@ -1,4 +1,4 @@
-use Rattle.std.proofs.Common.{refl, rules}
+use Rattle.std.proofs.Common.{refl}
 use Rattle.bt_parser.proofs.Mirrored.{on_err, refused_reads}
 use Rattle.bt_parser.proofs.call.delete_key.Goals as goal
 
@@ -9,4 +9,7 @@ pub returns-in_err-key-clause-shorter : goal.returns-in_err-key-clause-shorter
 returns-in_err-key-clause-shorter c = on_err _ _ c.from_residual.ensures.0
 
 pub returns-clause-reads : goal.returns-clause-reads
-returns-clause-reads c = rw c.in_ok-key.ensures.reads (search rules)
+returns-clause-reads c = rw (c.in_ok-key.ensures.reads, c.named_map-map.ensures) refl
+
+pub returns-clause-shorter : goal.returns-clause-shorter
+returns-clause-shorter c = c.in_ok-key.ensures.shorter

@@ -15,3 +15,6 @@ returns-in_err-number-clause-no_longer c = on_err _ _ c.from_residual.ensures.0
 
 pub returns-clause-reads : goal.returns-clause-reads
 returns-clause-reads c = rw (limit_is (items c.args.tokens.now), ← c.if-not-sees.ensures.class, ← c.skip.ensures.items, c.in_ok-number.ensures.reads) (search rules)
+
+pub skip-requires : goal.skip-requires
+skip-requires c = c.if-not-sees.ensures.some refl

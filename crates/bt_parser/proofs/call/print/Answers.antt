@@ -2,6 +2,7 @@ use Rattle.std.proofs.Common.{refl, rules}
 use Rattle.bt_grammar.specs.Tokens.{items}
 use Rattle.bt_parser.proofs.Mirrored.{on_err, refused_reads}
 use Rattle.bt_parser.proofs.Stated.{print_is}
+use Rattle.std.proofs.Math.Nat.{lt_trans}
 use Rattle.bt_parser.proofs.call.print.Goals as goal
 
 pub returns-in_err-expect-clause-reads : goal.returns-in_err-expect-clause-reads
@@ -24,3 +25,6 @@ returns-in_err-top-clause-shorter c = on_err _ _ c.from_residual-in_err-top.ensu
 
 pub returns-clause-reads : goal.returns-clause-reads
 returns-clause-reads c = rw (print_is (items c.args.tokens.now), c.in_ok-expect.ensures.reads, c.in_ok-map.ensures.reads, c.in_ok-top.ensures.reads) (search rules)
+
+pub returns-clause-shorter : goal.returns-clause-shorter
+returns-clause-shorter c = lt_trans c.in_ok-top.ensures.shorter (lt_trans c.in_ok-map.ensures.shorter c.in_ok-expect.ensures.shorter)

@@ -2,6 +2,7 @@ use Rattle.std.proofs.Common.{refl}
 use Rattle.bt_grammar.specs.Tokens.{items}
 use Rattle.bt_parser.proofs.Mirrored.{on_err, refused_reads}
 use Rattle.bt_parser.proofs.Stated.{printf_is}
+use Rattle.std.proofs.Math.Nat.{lt_trans}
 use Rattle.bt_parser.proofs.call.printf.Goals as goal
 
 pub returns-in_err-expect-clause-reads : goal.returns-in_err-expect-clause-reads
@@ -24,3 +25,6 @@ returns-in_err-values-clause-shorter c = on_err _ _ c.from_residual-in_err-value
 
 pub returns-clause-reads : goal.returns-clause-reads
 returns-clause-reads c = rw (printf_is (items c.args.tokens.now), c.in_ok-expect.ensures.reads, c.in_ok-bytes.ensures.reads, c.in_ok-values.ensures.reads) refl
+
+pub returns-clause-shorter : goal.returns-clause-shorter
+returns-clause-shorter c = lt_trans c.in_ok-values.ensures.shorter (lt_trans c.in_ok-bytes.ensures.shorter c.in_ok-expect.ensures.shorter)

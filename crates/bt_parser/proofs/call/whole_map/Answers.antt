@@ -1,4 +1,4 @@
-use Rattle.std.proofs.Common.{refl, rules}
+use Rattle.std.proofs.Common.{refl}
 use Rattle.bt_grammar.specs.Tokens.{items}
 use Rattle.bt_parser.proofs.Mirrored.{on_err, refused_reads}
 use Rattle.bt_parser.proofs.Stated.{whole_map_is}
@@ -11,4 +11,7 @@ pub returns-in_err-bytes-clause-shorter : goal.returns-in_err-bytes-clause-short
 returns-in_err-bytes-clause-shorter c = on_err _ _ c.from_residual.ensures.0
 
 pub returns-clause-reads : goal.returns-clause-reads
-returns-clause-reads c = rw (whole_map_is (items c.args.tokens.now), c.in_ok-bytes.ensures.reads) (search rules)
+returns-clause-reads c = rw (whole_map_is (items c.args.tokens.now), c.in_ok-bytes.ensures.reads, c.new.ensures) refl
+
+pub returns-clause-shorter : goal.returns-clause-shorter
+returns-clause-shorter c = c.in_ok-bytes.ensures.shorter

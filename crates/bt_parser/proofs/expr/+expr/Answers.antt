@@ -1,7 +1,8 @@
 use Rattle.std.proofs.Common.{refl, rules, arith}
 use Rattle.std.proofs.lemmas.Grind.{common_steps}
 use Rattle.bt_grammar.specs.Tokens.{items}
-use Rattle.bt_parser.proofs.Mirrored.{assignable_is, expression_is, keyed_is, level_is, level_turns, made_reads, not_passed, passed, primary_is, refused_reads, on_ok, on_err, unary_is, values_turns}
+use Rattle.bt_parser.proofs.Mirrored.{assignable_is, expression_is, keyed_is, level_is, level_turns, made_reads, not_passed, passed, primary_is, refused_reads, on_ok, on_err, unary_is, values_turns, shorter_on}
+use Rattle.std.proofs.Math.Nat.{lt_trans, le_of_lt, lt_of_le_of_lt}
 use Rattle.bt_parser.proofs.expr.+expr.Goals as goal
 
 pub alternatives-returns-clause-reads : goal.alternatives-returns-clause-reads
@@ -59,7 +60,16 @@ pub level-returns-clause-reads : goal.level-returns-clause-reads
 level-returns-clause-reads t c = rw (← c.loop-class.invariant.0, level_turns c.args.in_predicate c.args.tier c.loop-class.left (items c.loop-class.tokens), ← c.in_default.ensures.class) refl
 
 pub level-loop-class-preserved : goal.level-loop-class-preserved
-level-loop-class-preserved t c = (rw (← c.loop-class.invariant.0, level_turns c.args.in_predicate c.args.tier c.loop-class.left (items c.loop-class.tokens), ← c.in-Some.ensures.class, ← c.skip.ensures.items, c.in_ok-left-2.ensures.reads) refl, (first_of (search rules, grind (arith, common_steps))))
+level-loop-class-preserved t c = (
+  rw (
+    ← c.loop-class.invariant.0,
+    level_turns c.args.in_predicate c.args.tier c.loop-class.left (items c.loop-class.tokens),
+    ← c.in-Some.ensures.class,
+    ← c.skip.ensures.items,
+    c.in_ok-left-2.ensures.reads,
+  ) refl,
+  lt_trans c.in_ok-left-2.ensures.shorter (lt_trans c.skip.ensures.shorter c.loop-class.invariant.1),
+)
 
 pub primary-returns-in_err-map-in-Some-MapName-clause-reads : goal.primary-returns-in_err-map-in-Some-MapName-clause-reads
 primary-returns-in_err-map-in-Some-MapName-clause-reads t c = refused_reads _ _ _ _ c.from_residual.ensures.1 (λ other. rw (primary_is (items c.args.tokens.now), ← c.in-Some-MapName.ensures.class, c.in-Some-MapName.field-0-is, c.in_err-map-in-Some-MapName.ensures.reads other) refl)
@@ -95,7 +105,17 @@ pub values-returns-clause-reads : goal.values-returns-clause-reads
 values-returns-clause-reads t c = rw (← c.loop-alloc.invariant.0, values_turns c.loop-alloc.values (items c.loop-alloc.tokens), ← c.loop-alloc-test.ensures.class) refl
 
 pub values-loop-alloc-preserved : goal.values-loop-alloc-preserved
-values-loop-alloc-preserved t c = let e = values_turns c.loop-alloc.values (items c.loop-alloc.tokens) in (rw (← c.loop-alloc.invariant.0) (first_of (search rules, grind (arith, common_steps))), (first_of (search rules, grind (arith, common_steps))))
+values-loop-alloc-preserved t c = (
+  rw (
+    ← c.loop-alloc.invariant.0,
+    values_turns c.loop-alloc.values (items c.loop-alloc.tokens),
+    ← c.loop-alloc-test.ensures.class,
+    ← c.skip.ensures.items,
+    c.in_ok-expression-2.ensures.reads,
+    c.in_ok-push-2.ensures.ok,
+  ) refl,
+  lt_trans c.in_ok-expression-2.ensures.shorter (lt_trans c.skip.ensures.shorter c.loop-alloc.invariant.1),
+)
 
 pub alternatives-returns-in_err-yes-clause-reads : goal.alternatives-returns-in_err-yes-clause-reads
 alternatives-returns-in_err-yes-clause-reads t c = refused_reads _ _ _ _ c.from_residual.ensures.1 (λ other. rw (c.in_err-yes.ensures.reads other) refl)
@@ -213,3 +233,94 @@ operand-returns-in-Some-clause-reads t c = rw c.in-Some.is c.level.ensures.reads
 
 pub stepped-returns-clause-reads : goal.stepped-returns-clause-reads
 stepped-returns-clause-reads t c = rw (c.in_ok-target.ensures.reads, c.step_value.ensures) refl
+
+pub keys-returns-clause-reads : goal.keys-returns-clause-reads
+keys-returns-clause-reads t c =
+    let v = rw c.new-none.ensures at c.in_ok-keys.ensures.reads in rw (
+      ← c.if-not-sees.ensures.class,
+      ← c.skip.ensures.items,
+      v,
+      c.in_ok-expect.ensures.reads,
+    ) refl
+
+pub keys-returns-then-not-sees-clause-reads : goal.keys-returns-then-not-sees-clause-reads
+keys-returns-then-not-sees-clause-reads t c = rw (← c.if-not-sees.ensures.class, c.new-none.ensures) refl
+
+pub keys-skip-requires : goal.keys-skip-requires
+keys-skip-requires t c = c.if-not-sees.ensures.some refl
+
+pub keys-returns-clause-no_longer : goal.keys-returns-clause-no_longer
+keys-returns-clause-no_longer t c = le_of_lt (lt_trans c.in_ok-expect.ensures.shorter (lt_trans c.in_ok-keys.ensures.shorter c.skip.ensures.shorter))
+
+pub expression-returns-clause-shorter : goal.expression-returns-clause-shorter
+expression-returns-clause-shorter t c = shorter_on _ _ _ _ c.choice.ensures.shorter (lt_trans c.skip.ensures.shorter c.in_ok-condition.ensures.shorter)
+
+pub expression-returns-then-not-sees-clause-shorter : goal.expression-returns-then-not-sees-clause-shorter
+expression-returns-then-not-sees-clause-shorter t c = c.in_ok-condition.ensures.shorter
+
+pub expression-skip-requires : goal.expression-skip-requires
+expression-skip-requires t c = c.if-not-sees.ensures.some refl
+
+pub values-skip-requires : goal.values-skip-requires
+values-skip-requires t c = c.loop-alloc-test.ensures.some refl
+
+pub level-skip-requires : goal.level-skip-requires
+level-skip-requires t c = c.in-Some.ensures.some refl
+
+pub alternatives-returns-clause-shorter : goal.alternatives-returns-clause-shorter
+alternatives-returns-clause-shorter t c = on_ok _ _ (lt_trans c.in_ok-no.ensures.shorter c.in_ok-yes.ensures.shorter)
+
+pub values-loop-alloc-smaller : goal.values-loop-alloc-smaller
+values-loop-alloc-smaller t c = lt_trans c.in_ok-expression-2.ensures.shorter c.skip.ensures.shorter
+
+pub values-returns-clause-shorter : goal.values-returns-clause-shorter
+values-returns-clause-shorter t c = c.loop-alloc.invariant.1
+
+pub unary-returns-clause-shorter : goal.unary-returns-clause-shorter
+unary-returns-clause-shorter t c = on_ok _ _ (lt_trans c.in_ok-value.ensures.shorter c.skip-place.ensures.shorter)
+
+pub unary-skip-place-requires : goal.unary-skip-place-requires
+unary-skip-place-requires t c = c.in-Some.ensures.some refl
+
+pub assignable-returns-clause-shorter : goal.assignable-returns-clause-shorter
+assignable-returns-clause-shorter t c = c.in_ok-bytes.ensures.shorter
+
+pub assignable-returns-then-sees-clause-shorter : goal.assignable-returns-then-sees-clause-shorter
+assignable-returns-then-sees-clause-shorter t c = c.in_ok-keyed.ensures.shorter
+
+pub primary-skip-place-requires : goal.primary-skip-place-requires
+primary-skip-place-requires t c = c.in-Some-OpenParen.ensures.some refl
+
+pub primary-skip-place-requires-in-Some-Increment : goal.primary-skip-place-requires-in-Some-Increment
+primary-skip-place-requires-in-Some-Increment t c = c.in-Some-Increment.ensures.some refl
+
+pub primary-skip-place-requires-in-Some-Decrement : goal.primary-skip-place-requires-in-Some-Decrement
+primary-skip-place-requires-in-Some-Decrement t c = c.in-Some-Decrement.ensures.some refl
+
+pub primary-returns-in-Some-OpenParen-clause-shorter : goal.primary-returns-in-Some-OpenParen-clause-shorter
+primary-returns-in-Some-OpenParen-clause-shorter t c = shorter_on _ _ _ _ c.closed.ensures.shorter c.skip-place.ensures.shorter
+
+pub primary-returns-in-Some-Increment-clause-shorter : goal.primary-returns-in-Some-Increment-clause-shorter
+primary-returns-in-Some-Increment-clause-shorter t c = shorter_on _ _ _ _ c.stepped.ensures.shorter c.skip-place-in-Some-Increment.ensures.shorter
+
+pub primary-returns-in-Some-Decrement-clause-shorter : goal.primary-returns-in-Some-Decrement-clause-shorter
+primary-returns-in-Some-Decrement-clause-shorter t c =
+    shorter_on _ _ _ _ c.stepped-in-Some-Decrement.ensures.shorter c.skip-place-in-Some-Decrement.ensures.shorter
+
+pub primary-returns-in_ok-map-in-Some-MapName-clause-shorter : goal.primary-returns-in_ok-map-in-Some-MapName-clause-shorter
+primary-returns-in_ok-map-in-Some-MapName-clause-shorter t c = lt_of_le_of_lt c.map_value.ensures.no_longer c.in_ok-map-in-Some-MapName.ensures.shorter
+
+pub keyed-returns-clause-shorter : goal.keyed-returns-clause-shorter
+keyed-returns-clause-shorter t c = lt_of_le_of_lt c.in_ok-keys.ensures.no_longer c.in_ok-bytes.ensures.shorter
+
+pub value_until-returns-clause-shorter : goal.value_until-returns-clause-shorter
+value_until-returns-clause-shorter t c = lt_trans c.in_ok-expect.ensures.shorter c.in_ok-value.ensures.shorter
+
+pub level-loop-class-smaller : goal.level-loop-class-smaller
+level-loop-class-smaller t c = lt_trans c.in_ok-left-2.ensures.shorter c.skip.ensures.shorter
+
+pub level-returns-clause-shorter : goal.level-returns-clause-shorter
+level-returns-clause-shorter t c = c.loop-class.invariant.1
+
+pub values-loop-alloc-init : goal.values-loop-alloc-init
+values-loop-alloc-init t c = (rw (c.in_ok-expression.ensures.reads, c.in_ok-push.ensures.ok) refl, c.in_ok-expression.ensures.shorter)

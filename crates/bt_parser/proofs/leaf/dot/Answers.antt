@@ -8,3 +8,9 @@ returns-then-sees-clause-reads c = rw (dot_is (items c.args.tokens.now), ← c.i
 
 pub returns-clause-reads : goal.returns-clause-reads
 returns-clause-reads c = rw (dot_is (items c.args.tokens.now), ← c.if-sees.ensures.class) c.expect.ensures.reads
+
+pub skip-requires : goal.skip-requires
+skip-requires c = c.if-sees.ensures.some refl
+
+pub returns-then-sees-clause-shorter : goal.returns-then-sees-clause-shorter
+returns-then-sees-clause-shorter c = c.skip.ensures.shorter

@@ -3,7 +3,7 @@ use Rattle.std.proofs.lemmas.Grind.{common_steps}
 use Rattle.bt_core.specs.declared.limits.TheConstants.{NESTING}
 use Rattle.bt_grammar.specs.declared.class.Class.TheVariants.{BeginWord}
 use Rattle.bt_parser.specs.Levels.{levels_of}
-use Rattle.bt_parser.proofs.DeepFrom.{stop_at, go_on}
+use Rattle.bt_parser.proofs.DeepFrom.{stop_at, go_on, past_end}
 use Rattle.bt_parser.proofs.nesting.first_too_deep.Goals as goal
 
 pub returns-then-levels-gt-MOST_WEIGHT-clause-value : goal.returns-then-levels-gt-MOST_WEIGHT-clause-value
@@ -20,3 +20,6 @@ loop-i-preserved c =
       weighed = grind (arith, common_steps);
       light = light;
     }
+
+pub returns-clause-value : goal.returns-clause-value
+returns-clause-value c = past_end c.loop-i.i (levels_of c.loop-i.levels) c.args.classes.now c.loop-i-test.false ∙ c.loop-i.invariant.deep

@@ -1,31 +1,58 @@
-use Rattle.std.proofs.Common.{rules, arith}
-use Rattle.std.proofs.lemmas.Grind.{common_steps}
+use Rattle.std.proofs.Common.{refl}
 use Rattle.bt_grammar.specs.Tokens.{items}
-use Rattle.bt_parser.proofs.Probed.{points_start, points_turns}
+use Rattle.bt_parser.proofs.Probed.{points_start, points_turns, some_pushed}
+use Rattle.std.proofs.Math.Nat.{lt_trans}
+use Rattle.bt_parser.proofs.Mirrored.{refused_reads}
 use Rattle.bt_parser.proofs.probe.points.Goals as goal
 
 pub returns-in_err-point-clause-reads : goal.returns-in_err-point-clause-reads
-returns-in_err-point-clause-reads c = rw (points_start (items c.args.tokens.now)) (first_of (search rules, grind (arith, common_steps)))
+returns-in_err-point-clause-reads c =
+    refused_reads _ _ _ _ c.from_residual.ensures.1 (λ other. rw (points_start (items c.args.tokens.now), c.in_err-point.ensures.reads other) refl)
 
 pub loop-alloc-init : goal.loop-alloc-init
 loop-alloc-init c = record {
-  read = rw (points_start (items c.args.tokens.now)) (first_of (search rules, grind (arith, common_steps)));
-  shorter = first_of (search rules, grind (arith, common_steps));
-  some = first_of (search rules, grind (arith, common_steps));
+  read = rw (points_start (items c.args.tokens.now), c.in_ok-point.ensures.reads, c.in_ok-push.ensures.ok, c.new-points.ensures) refl;
+  shorter = c.in_ok-point.ensures.shorter;
+  some = some_pushed _ _ _ c.in_ok-push.ensures.ok;
 }
 
 pub returns-in_err-point-2-clause-reads : goal.returns-in_err-point-2-clause-reads
 returns-in_err-point-2-clause-reads c =
-    let e = points_turns c.loop-alloc.points (items c.loop-alloc.tokens) in rw (← c.loop-alloc.invariant.read) (first_of (search rules, grind (arith, common_steps)))
+    refused_reads _ _ _ _ c.from_residual-in_err-point-2.ensures.1
+    (λ other. rw (
+      ← c.loop-alloc.invariant.read,
+      points_turns c.loop-alloc.points (items c.loop-alloc.tokens),
+      ← c.loop-alloc-test.ensures.class,
+      ← c.skip.ensures.items,
+      c.in_err-point-2.ensures.reads other,
+    ) refl)
 
 pub loop-alloc-preserved : goal.loop-alloc-preserved
-loop-alloc-preserved c =
-    let e = points_turns c.loop-alloc.points (items c.loop-alloc.tokens) in record {
-      read = rw (← c.loop-alloc.invariant.read) (first_of (search rules, grind (arith, common_steps)));
-      shorter = first_of (search rules, grind (arith, common_steps));
-      some = first_of (search rules, grind (arith, common_steps));
-    }
+loop-alloc-preserved c = record {
+  read = rw (
+    ← c.loop-alloc.invariant.read,
+    points_turns c.loop-alloc.points (items c.loop-alloc.tokens),
+    ← c.loop-alloc-test.ensures.class,
+    ← c.skip.ensures.items,
+    c.in_ok-point-2.ensures.reads,
+    c.in_ok-push-2.ensures.ok,
+  ) refl;
+  shorter = lt_trans c.in_ok-point-2.ensures.shorter (lt_trans c.skip.ensures.shorter c.loop-alloc.invariant.shorter);
+  some = some_pushed _ _ _ c.in_ok-push-2.ensures.ok;
+}
 
 pub returns-clause-reads : goal.returns-clause-reads
 returns-clause-reads c =
-    let e = points_turns c.loop-alloc.points (items c.loop-alloc.tokens) in rw (← c.loop-alloc.invariant.read) (first_of (search rules, grind (arith, common_steps)))
+    rw (← c.loop-alloc.invariant.read, points_turns c.loop-alloc.points (items c.loop-alloc.tokens), ← c.loop-alloc-test.ensures.class) refl
+
+pub returns-clause-some : goal.returns-clause-some
+returns-clause-some c = c.loop-alloc.invariant.some
+
+pub returns-clause-shorter : goal.returns-clause-shorter
+returns-clause-shorter c = c.loop-alloc.invariant.shorter
+
+pub skip-requires : goal.skip-requires
+skip-requires c = c.loop-alloc-test.ensures.some refl
+
+pub loop-alloc-smaller : goal.loop-alloc-smaller
+loop-alloc-smaller c = lt_trans c.in_ok-point-2.ensures.shorter c.skip.ensures.shorter

@@ -51,3 +51,6 @@ returns-else-left-eq0-clause-outcome c =
     let h : another c.loop-alloc.probes (items c.loop-alloc.tokens) ≡ false = grind (arith, common_steps) in
     let some : length c.loop-alloc.tokens ≢ 0 = grind (arith, common_steps) in
     refused_left c.args.tokens.now c.loop-alloc.tokens c.loop-alloc.probes c.loop-alloc.invariant.read c.loop-alloc.invariant.few h some
+
+pub loop-alloc-smaller : goal.loop-alloc-smaller
+loop-alloc-smaller c = rw c.in-Some.is at c.in_ok-probe.ensures.shorter

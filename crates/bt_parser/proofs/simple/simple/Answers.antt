@@ -1,6 +1,7 @@
-use Rattle.std.proofs.Common.{rules}
+use Rattle.std.proofs.Common.{refl}
 use Rattle.bt_grammar.specs.Tokens.{items}
 use Rattle.bt_parser.proofs.Stated.{simple_is}
+use Rattle.bt_parser.proofs.Mirrored.{shorter_on}
 use Rattle.bt_parser.proofs.simple.simple.Goals as goal
 
 pub returns-then-sees-clause-reads : goal.returns-then-sees-clause-reads
@@ -13,4 +14,27 @@ pub returns-in_default-clause-reads : goal.returns-in_default-clause-reads
 returns-in_default-clause-reads c = rw (simple_is (items c.args.tokens.now), ← c.if-sees.ensures.class, ← c.if-sees-2.ensures.class, ← c.in_default.ensures.class) c.call.ensures.reads
 
 pub returns-clause-reads : goal.returns-clause-reads
-returns-clause-reads c = rw (simple_is (items c.args.tokens.now)) (search rules)
+returns-clause-reads c =
+    rw (
+      simple_is (items c.args.tokens.now),
+      ← c.if-sees.ensures.class,
+      ← c.if-sees-2.ensures.class,
+      ← c.in-Some.ensures.class,
+      ← c.skip-place.ensures.items,
+      ← c.skip-place.ensures.place,
+    ) c.step-2.ensures.reads
+
+pub returns-then-sees-clause-shorter : goal.returns-then-sees-clause-shorter
+returns-then-sees-clause-shorter c = c.map_stmt.ensures.shorter
+
+pub returns-then-sees-2-clause-shorter : goal.returns-then-sees-2-clause-shorter
+returns-then-sees-2-clause-shorter c = c.var_stmt.ensures.shorter
+
+pub returns-in_default-clause-shorter : goal.returns-in_default-clause-shorter
+returns-in_default-clause-shorter c = c.call.ensures.shorter
+
+pub skip-place-requires : goal.skip-place-requires
+skip-place-requires c = c.in-Some.ensures.some refl
+
+pub returns-clause-shorter : goal.returns-clause-shorter
+returns-clause-shorter c = shorter_on _ _ _ _ c.step-2.ensures.shorter c.skip-place.ensures.shorter
