@@ -134,12 +134,7 @@ fn take_all(
 }
 
 /// Runs the bodies of `BEGIN`.
-fn begin(
-    alloc: Global,
-    job: &Job,
-    codes: &[Code],
-    port: &mut SerialPort,
-) -> Result<u64, Memory>
+fn begin(alloc: Global, job: &Job, codes: &[Code], port: &mut SerialPort) -> Result<u64, Memory>
     requires can { CanRunAll job.now (plans_by job.now codes.now) }
     requires can_run { AllByRecursion CanRunCode codes.now }
     requires first { port.old.turn ≡ first_turn (cpus_in job.now) }
@@ -162,12 +157,7 @@ fn begin(
 }
 
 /// Runs the bodies of `END`.
-fn end(
-    alloc: Global,
-    job: &Job,
-    codes: &[Code],
-    port: &mut SerialPort,
-) -> Result<u64, Memory>
+fn end(alloc: Global, job: &Job, codes: &[Code], port: &mut SerialPort) -> Result<u64, Memory>
     requires can { CanRunAll job.now (plans_by job.now codes.now) }
     requires can_run { AllByRecursion CanRunCode codes.now }
     requires among { port.old.turn.among ≡ true }

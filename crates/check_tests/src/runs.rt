@@ -60,14 +60,7 @@ fn a_loop_ends_within_what_was_answered(rt: HostRuntime) -> Result<(), Fail> {
     let code = decode(rt.alloc(), LOOP)?;
     assert_eq!(rt; code.len(), 6);
     let code = Code::of(rt.alloc(), Items::of(code))?;
-    let ended = Machine::run(
-        rt.alloc(),
-        &code,
-        &[0; 128],
-        &[],
-        &mut NoCalls,
-        most,
-    );
+    let ended = Machine::run(rt.alloc(), &code, &[0; 128], &[], &mut NoCalls, most);
     assert_eq!(rt;
         ended,
         Ok(Ended {

@@ -69,12 +69,7 @@ impl<'a> CodeBodies<'a> {
     ghost use Rattle.code_bodies.specs.Running.{plan_of};
 
     /// The bodies of a script by their codes, for one actor.
-    pub fn new(
-        script: &'a Typed,
-        codes: &'a [Code],
-        actor: u32,
-        actors: u32,
-    ) -> CodeBodies<'a>
+    pub fn new(script: &'a Typed, codes: &'a [Code], actor: u32, actors: u32) -> CodeBodies<'a>
         requires below { actor < actors }
         requires can_run { AllByRecursion CanRunCode codes.now }
         ensures { plan_of result ≡ coding script.now codes.now actors actor }

@@ -49,13 +49,6 @@ pub fn instructions_of(alloc: Global, program: &Program, value: i64) -> Result<u
     let mut payload = [7, 0, 0, 0, 0, 0, 0, 0, 0, 0, 0, 0, 0, 0, 0, 0];
     payload[8..].copy_from_slice(&value.to_le_bytes());
     let code = Code::of(alloc, Items::of(code))?;
-    let ended = Machine::run(
-        alloc,
-        &code,
-        &[0; 128],
-        &payload,
-        &mut Done,
-        program.fuel,
-    )?;
+    let ended = Machine::run(alloc, &code, &[0; 128], &payload, &mut Done, program.fuel)?;
     Ok(ended.instructions)
 }
