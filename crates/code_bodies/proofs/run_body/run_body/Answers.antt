@@ -1,4 +1,5 @@
-use Rattle.std.proofs.Common.{sym, subst}
+use Rattle.std.proofs.Common.{◌*◌, sym, subst}
+use Rattle.bt_core.specs.declared.limits.TheConstants.{FUEL_OF_A_SLOT}
 use Rattle.bt_core.specs.Interaction.{Ended, Performed, and_then}
 use Rattle.bpf_interp.specs.Running.{RunPerformed}
 use Rattle.event_record.specs.Contexts.{context_bytes}
@@ -16,4 +17,6 @@ returns-clause-performed g c =
     subst (λ r. Performed (and_then run (λ end. Ended (count_of end))) old new r) (sym c.count_in.ensures)
     (counted run old new c.run_through-run.result
     (subst (λ b. RunPerformed (script_run (desk_of c.args.script.now c.args.actor c.args.actors) c.args.code.now b c.args.payload.now (fuel_of c.args.code.now)) old new c.run_through-run.result)
-    c.context_bytes-bytes.ensures c.run_through-run.ensures.performed))
+    c.context_bytes-bytes.ensures
+    (subst (λ n. RunPerformed (script_run (desk_of c.args.script.now c.args.actor c.args.actors) c.args.code.now c.context_bytes-bytes.result c.args.payload.now (FUEL_OF_A_SLOT * n)) old new c.run_through-run.result)
+    c.len.ensures c.run_through-run.ensures.performed)))

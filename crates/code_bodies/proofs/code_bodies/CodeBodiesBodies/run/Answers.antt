@@ -22,5 +22,4 @@ returns-in-Some-clause-performed g c = let b = c.args.self.now in
     let there : slice_get c.args.self.now.codes.now c.args.body ≡ Some c.in-Some.code.now =
     slice_get-get_or c.args.self.now.codes.now c.args.body c.in-Some.code.now c.in-Some.ensures.lookup.3.0 ∙ ap Some (sym c.in-Some.ensures.lookup.1) in
     subst (λ o. Performed (coded b.script.now b.actor b.actors o c.args.context.now c.args.payload.now) (g.P.Port.steps c.args.port.now) (g.P.Port.steps c.run_body.new.port) c.run_body.result) (sym there)
-    (subst (λ l. Performed (coded b.script.now b.actor b.actors (Some l) c.args.context.now c.args.payload.now) (g.P.Port.steps c.args.port.now) (g.P.Port.steps c.run_body.new.port) c.run_body.result)
-    c.as_slice.ensures c.run_body.ensures.performed)
+    c.run_body.ensures.performed
