@@ -4,6 +4,7 @@ use body_fixtures::port::port_of;
 use body_fixtures::scripts::typed_of;
 use bpf_codegen::generate::generate_program;
 use bpf_encode::decode::decode;
+use bpf_interp::code::Code;
 use bt_core::items::Items;
 use bt_core::step::{Reply, Step};
 use bt_lower::lower::lower;
@@ -31,10 +32,10 @@ fn run_code_of(
     }
     let context = context_bytes(&context_of(moment, payload.len() as u32));
     let mut port = port_of(alloc, &typed.maps, moment, replies)?;
-    let code = code.as_slice();
+    let code = Code::of(alloc, Items::of(code))?;
     let fuel = program.fuel;
     let ended = run_code(
-        alloc, code, &context, payload, typed, actor, actors, &mut port, fuel,
+        alloc, &code, &context, payload, typed, actor, actors, &mut port, fuel,
     )?;
     Ok((port.steps, ended.instructions))
 }
