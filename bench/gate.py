@@ -6,8 +6,9 @@ processor time of each process to its end, and notes meanwhile, every tenth of a
 by its folder and its words. What ends without being seen goes to the crate of the process that began it. The accounting is of the whole machine, into a
 file that is removed again, and is turned off at the end; what does not come from the command is not counted.
 
-Then it prints, and writes to the file REPORT where one is given, the processor seconds of each crate: of its proof, of its tests, and of its edits; their
-sums, beside what the command took with all its processes; what the first build takes of it; and the dearest chains of crates by the seconds of proofs.
+Then it prints, and writes to the file REPORT where one is given, the processor seconds of each crate: of its proof, with the building of a program, of its
+tests, of its edits, and of a program's second build, by the compiler that is written in Rattle; their sums, beside what the command took with all its
+processes; what the first build takes of it; and the dearest chains of crates by the seconds of proofs.
 """
 import collections
 import contextlib
@@ -29,7 +30,9 @@ TOP = pathlib.Path(__file__).resolve().parent.parent
 EVERY = 0.1
 RECORD = struct.Struct("<BBHIIIIIIfHHHHHHHH16s")
 TICKS = 100
-KINDS = ("proof", "tests", "edits")
+SECOND_COMPILER = "rattle-x64"
+# A program is built once more by the compiler that is written in Rattle, which only the gate does.
+KINDS = ("proof", "tests", "edits", "second compiler")
 
 
 class Watch(threading.Thread):
@@ -77,7 +80,14 @@ def work_of(words, folder):
         return None, None
     if "/rt-edit" in folder or "/rt-edit" in text:
         return found[1], "edits"
-    return found[1], "tests" if "--test" in words else "proof"
+    if "--test" in words:
+        return found[1], "tests"
+    return found[1], "second compiler" if is_second_compiler(words) else "proof"
+
+
+def is_second_compiler(words):
+    """Whether a process builds by the compiler that is written in Rattle."""
+    return ("--backend", "rattle") in zip(words, words[1:]) or os.path.basename(words[0]) == SECOND_COMPILER
 
 
 def spent(number):
@@ -151,7 +161,7 @@ def chains(sums, names):
 def told(sums, wall, children, names):
     """The lines of the report."""
     crates = sorted({it[0] for it in sums if it}, key=lambda it: -sum(sums[it, kind] for kind in KINDS))
-    lines = ["| Crate | Proof | Tests | Edits |", "|---|---|---|---|"]
+    lines = [f"| Crate | {' | '.join(kind.capitalize() for kind in KINDS)} |", "|---" * (len(KINDS) + 1) + "|"]
     for crate in crates:
         cells = [f"{sums[crate, kind]:,.0f}" if sums[crate, kind] >= 0.5 else "" for kind in KINDS]
         lines.append(f"| `{crate}` | {' | '.join(cells)} |")
