@@ -6,6 +6,7 @@ use bt_core::key::Key;
 use bt_core::memory::{Memory, TryCopy};
 use bt_core::order::{compare_keys, keys_are_ordered};
 use bt_core::value::Value;
+use byteorder::{ByteOrder, LittleEndian};
 use std::alloc::Global;
 use std::cmp::Ordering;
 
@@ -81,23 +82,34 @@ pub(crate) fn slots_for(alloc: Global, keys: &[Key]) -> Result<Vec<u32>, Memory>
 fn slot_of(key: &Key, slots: usize) -> usize
     ensures { 0 < slots → result < slots }
 {
-    if slots == 0 {
-        return 0;
-    }
-    let mut sum: u64 = 0;
+    let mut sum = 0;
     for part in key.parts() {
-        match part {
-            Value::Int(number) => {
-                sum = mixed(sum, number.cast_unsigned());
-            }
-            Value::Str(text) => {
-                for byte in text.bytes() {
-                    sum = mixed(sum, *byte as u64);
-                }
-            }
-        }
+        sum = match part {
+            Value::Int(number) => mixed(sum, number.cast_unsigned()),
+            Value::Str(text) => text_mixed(sum, text.bytes()),
+        };
     }
-    (sum >> 32) as usize % slots
+    place_among(sum, slots)
+}
+
+/// The place among so many that a hash has by its high bits.
+fn place_among(sum: u64, places: usize) -> usize
+    ensures { 0 < places → result < places }
+{
+    ((sum as u128 * places as u128) >> 64) as usize
+}
+
+/// A hash that has taken in a text more, eight bytes at a time.
+fn text_mixed(mut sum: u64, bytes: &[u8]) -> u64 {
+    let words = bytes.len() / 8;
+    let rest = bytes.len() % 8;
+    for n in 0..words {
+        sum = mixed(sum, LittleEndian::read_u64(&bytes[8 * n..]));
+    }
+    if rest > 0 {
+        sum = mixed(sum, LittleEndian::read_uint(&bytes[8 * words..], rest));
+    }
+    sum
 }
 
 /// A hash that has taken in one word more.

@@ -2,7 +2,7 @@
 ghost use Rattle.std.specs.Prelude.{◌≡◌, ℕ, ◌<◌, List, [], ◌∷◌, ◌++◌, map, length, vec_len, vec_capacity, slice_get, Some, None, IsTrue, IfOk, OnOk, IsOk};
 ghost use Rattle.step_list.specs.HeldFacts.{held_prop};
 ghost use Rattle.step_list.specs.HeldReplies.{AreHeldReplies};
-ghost use Rattle.step_list.specs.Deeds.{deed_of};
+ghost use Rattle.step_list.specs.Deeds.{deed_of, reply_told};
 ghost use Rattle.step_list.specs.Places.{expanded, is_all_within, last_told, step_by_deed};
 ghost use Rattle.std.specs.Coded.{Coded-set};
 
@@ -181,8 +181,26 @@ impl StepList {
                 reply,
             },
         );
-        self.last = reply_of(&mark);
+        note_last(&mut self.last, &mark);
         self.places.push_reserved(Place { stamp, mark });
+    }
+}
+
+/// Keeps the reply that a mark tells by itself. Most are `Done` behind `Done`, and then nothing is written.
+fn note_last(last: &mut Reply, mark: &Mark)
+    ensures { last.new ≡ reply_told mark.now }
+{
+    match mark {
+        Mark::GetInt { .. } | Mark::Check { .. } => *last = reply_of(mark),
+        Mark::SetInt { .. }
+        | Mark::Delete { .. }
+        | Mark::Add { .. }
+        | Mark::Print { .. }
+        | Mark::Whole(_) => {
+            if !matches!(last, Reply::Done) {
+                *last = Reply::Done;
+            }
+        }
     }
 }
 
