@@ -2,6 +2,8 @@
 use Rattle.std.proofs.Common.{◌≡◌, ℕ, suc, ◌*◌, ◌<◌, ◌≤◌, max, List, [], ◌∷◌, length, take, drop, Option, Some, None, refl, ap, ◌∙◌, arith}
 use Rattle.std.specs.Prelude.{IsTrue, IsSomeAnd}
 use Rattle.std.proofs.lemmas.Bool.Decides.{nat_tests}
+use Rattle.std.proofs.lemmas.List.{take_all}
+use Rattle.std.specs.Option.{option_map}
 use Rattle.bt_core.specs.declared.map.MapDecl.{MapDecl}
 use Rattle.bt_core.specs.declared.map.MapKind.{MapKind}
 use Rattle.bt_core.specs.declared.map.MapKind.TheVariants.{Ints, Strs, Aggs}
@@ -13,7 +15,7 @@ use Rattle.bt_core.specs.Kinds.{HasShape, IsOfShape, IsOfKind}
 use Rattle.bt_core.specs.declared.limits.TheConstants.{FRAME_BYTES}
 use Rattle.bpf_insn.specs.declared.address.TheConstants.{CONTEXT, PAYLOAD, FRAME, CONTEXT_BYTES}
 use Rattle.bpf_insn.specs.Regions.{Spaces, place_in, bytes_in, is_in_frame}
-use Rattle.helper_abi.specs.Reading.{shape_bytes, bytes_of_shapes, value_in, values_in, bytes_at, shape_of_kind}
+use Rattle.helper_abi.specs.Reading.{shape_bytes, bytes_of_shapes, value_in, values_in, bytes_at, values_at, shape_of_kind}
 use Rattle.helper_abi.specs.Writing.{room_of}
 
 value_in-shaped : (h : Shape) (bytes : List ℕ) → IsOfShape h (value_in h bytes)
@@ -74,3 +76,15 @@ kind_room (Aggs kind) (Str s) to h room = absurd h
 pub served_room : (o : Option MapDecl) (value : Value) (to : ℕ) → IsSomeAnd o (λ decl. IsOfKind decl.kind value) → IsSomeAnd o (λ decl. IsTrue (is_in_frame to (shape_bytes (shape_of_kind decl.kind)))) → IsTrue (is_in_frame to (room_of value))
 served_room None value to h room = absurd h
 served_room (Some decl) value to h room = kind_room decl.kind value to h room
+
+-- the value of one shape
+pub one_read : (s : Spaces) (h : Shape) (address : ℕ) (bytes : List ℕ) → bytes_in s address (shape_bytes h) ≡ Some bytes → length bytes ≡ shape_bytes h
+    → values_at s (h ∷ []) address ≡ Some (value_in h bytes ∷ [])
+one_read s shapes.Int address bytes read long = ap (option_map (values_in (shapes.Int ∷ []))) read
+    ∙ ap (λ all. Some (value_in shapes.Int all ∷ [])) (take_all 8 bytes (omega (arith, long)))
+one_read s shapes.Str address bytes read long = ap (option_map (values_in (shapes.Str ∷ []))) read
+    ∙ ap (λ all. Some (value_in shapes.Str all ∷ [])) (take_all 64 bytes (omega (arith, long)))
+
+pub none_read : (s : Spaces) (h : Shape) (address : ℕ) → bytes_in s address (shape_bytes h) ≡ None → values_at s (h ∷ []) address ≡ None
+none_read s shapes.Int address read = ap (option_map (values_in (shapes.Int ∷ []))) read
+none_read s shapes.Str address read = ap (option_map (values_in (shapes.Str ∷ []))) read

@@ -1,5 +1,5 @@
 // The values that helpers read, and the bytes that they write.
-ghost use Rattle.std.specs.Prelude.{◌≡◌, ◌<◌, ◌≤◌, ◌*◌, ◌^◌, length, None, Some, Err, IfOk, IfSome, IsTrue, MatchOption};
+ghost use Rattle.std.specs.Prelude.{◌≡◌, ◌∷◌, [], ◌<◌, ◌≤◌, ◌*◌, ◌^◌, length, None, Some, Err, IfOk, IfSome, IsTrue, MatchOption};
 ghost use Rattle.bt_core.specs.declared.limits.TheConstants.{KEY_PARTS as MOST_PARTS};
 ghost use Rattle.bt_core.specs.declared.value.Value.TheVariants as variants;
 ghost use Rattle.bt_core.specs.Kinds.{HasShape, IsOfShape};
@@ -130,7 +130,17 @@ pub fn values_at(
     }
 }
 
-/// The key at an address, of at most four parts.
+// The key of one part at an address.
+fn key_of_one(memory: &Regions, shape: Shape, address: u64) -> Option<Key>
+    ensures value { MatchOption result (values_at memory.now (shape ∷ []) address ≡ None)
+        (λ key. values_at memory.now (shape ∷ []) address ≡ Some key) }
+    ensures shaped { IfSome result (λ key. HasShape (shape ∷ []) key) }
+{
+    let bytes = memory.bytes(address, shape_bytes(shape))?;
+    Some(Key::one(value_in(shape, bytes)))
+}
+
+/// The key at an address, of at most four parts. A key of one part takes no memory.
 ///
 /// # Errors
 ///
@@ -146,6 +156,12 @@ pub fn key_at(
     ensures outside { values_at memory.now shapes.now address ≡ None → result ≡ Err Address }
     ensures shaped { IfOk result (λ key. HasShape shapes.now key) }
 {
+    if let [shape] = shapes {
+        return match key_of_one(memory, *shape, address) {
+            Some(key) => Ok(key),
+            None => Err(PortFault::Address),
+        };
+    }
     match values_at(alloc, memory, shapes, address) {
         Ok(values) => Ok(Key::of(values.into_vec())),
         Err(fault) => Err(fault),
