@@ -45,7 +45,7 @@ fn write_emitted(
     ensures { OnOk result (out.new.items ≡ out.old.items ++ item_text script.now.formats script.now.maps (item_told emitted.entry)) }
 {
     match emitted {
-        EmittedItem::Whole(item) => write_text(out, alloc, script, item),
+        EmittedItem::Whole(_, item) => write_text(out, alloc, script, item),
         EmittedItem::Printed(print, prints) => {
             let item = printed(alloc, print, prints)?;
             write_text(out, alloc, script, &item)

@@ -46,7 +46,7 @@ fn write_emitted(
     ensures { OnOk result (out.new.items ≡ out.old.items ++ item_lines script.now.formats script.now.maps (item_told emitted.entry)) }
 {
     match emitted {
-        EmittedItem::Whole(item) => write_item(out, alloc, script, item),
+        EmittedItem::Whole(_, item) => write_item(out, alloc, script, item),
         EmittedItem::Printed(print, prints) => {
             let item = printed(alloc, print, prints)?;
             write_item(out, alloc, script, &item)

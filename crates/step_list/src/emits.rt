@@ -5,7 +5,7 @@ ghost use Rattle.std.specs.Option.{option_map};
 ghost use Rattle.bt_core.specs.declared.value.Value.{Value as Part};
 ghost use Rattle.step_list.specs.Deeds.{deed_of, no_item};
 ghost use Rattle.step_list.specs.Places.{expanded, step_by_deed};
-ghost use Rattle.step_list.specs.Emits.{told, emit_of};
+ghost use Rattle.step_list.specs.Emits.{told, emit_of, object_told};
 ghost use Rattle.step_list.specs.Lists.{steps_in};
 
 use crate::deed::{Deed, Mark};
@@ -17,19 +17,29 @@ use bt_core::step::{ObjectId, Op};
 use print_list::list::PrintList;
 use std::alloc::Global;
 
-/// An item that a step emitted, with the step's stamp and object.
+/// An item that a step emitted, in 32 bytes: the step's stamp, and where the item lies.
 #[derive(Clone, Copy)]
 pub struct Emitted<'a> {
     pub stamp: u64,
-    pub object: ObjectId,
     pub item: EmittedItem<'a>,
 }
 
-/// An item that a step emitted, where it lies: as it is, or by its number in a list of printed items, counted from 0.
+/// An item that a step emitted, where it lies: as it is, with the step's object, or by its number in a list of items that were
+/// printed at the output, counted from 0.
 #[derive(Clone, Copy)]
 pub enum EmittedItem<'a> {
-    Whole(&'a Item),
+    Whole(ObjectId, &'a Item),
     Printed(u32, &'a PrintList),
+}
+
+/// The object of the step that emitted an item.
+pub fn object_of_emit(item: &EmittedItem<'_>) -> ObjectId
+    ensures { result ≡ object_told item.now }
+{
+    match item {
+        EmittedItem::Whole(object, _) => *object,
+        EmittedItem::Printed(..) => ObjectId::Out,
+    }
 }
 
 /// A copy of the item of a number in a list of printed items, or a cut of line 0 where the list has none of that number. [`Memory`] where there
@@ -54,8 +64,7 @@ pub(crate) fn emit_at<'a>(
             Some(deed) => match &deed.op {
                 Op::Emit(item) => Some(Emitted {
                     stamp: place.stamp,
-                    object: deed.object,
-                    item: EmittedItem::Whole(item),
+                    item: EmittedItem::Whole(deed.object, item),
                 }),
                 _ => None,
             },
@@ -63,7 +72,6 @@ pub(crate) fn emit_at<'a>(
         },
         Mark::Print { print, .. } => Some(Emitted {
             stamp: place.stamp,
-            object: ObjectId::Out,
             item: EmittedItem::Printed(print, prints),
         }),
         Mark::GetInt { .. }

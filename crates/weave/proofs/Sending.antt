@@ -14,7 +14,7 @@ use Rattle.bt_core.specs.declared.step.Step.{Step}
 use Rattle.bt_core.specs.contracts.step.ObjectIdOrd.TheImpl as object_ord
 use Rattle.bt_core.specs.Order.{object_order}
 use Rattle.bt_core.proofs.OrderLaws.{objects_total}
-use Rattle.step_list.specs.Emits.{Sent, told, sent, emit_of}
+use Rattle.step_list.specs.Emits.{Sent, told, object_told, sent, emit_of}
 use Rattle.step_list.specs.declared.emits.Emitted.{Emitted}
 use Rattle.step_list.specs.declared.list.StepList.{StepList}
 use Rattle.step_list.specs.Lists.{steps_in}
@@ -53,13 +53,13 @@ sent_in_order steps = picked_in_order comes_before sent_before steps_ranked emit
 
 -- by the derived order of keys
 abbrev pub key_before : Emitted → Emitted → Bool
-key_before e f = is_lt (ordering_then (nat_cmp e.stamp f.stamp) (object_ord.ghosts.cmp e.object f.object))
+key_before e f = is_lt (ordering_then (nat_cmp e.stamp f.stamp) (object_ord.ghosts.cmp (object_told e.item) (object_told f.item)))
 
 key_is : (e f : Emitted) → key_before e f ≡ sent_before (told e) (told f)
-key_is e f = ap (λ (o : Ordering). is_lt (ordering_then (nat_cmp e.stamp f.stamp) o)) (derived_order e.object f.object)
+key_is e f = ap (λ (o : Ordering). is_lt (ordering_then (nat_cmp e.stamp f.stamp) o)) (derived_order (object_told e.item) (object_told f.item))
 
-sent_total : IsTotalOrder (λ (e f : Emitted). ordering_then (nat_cmp e.stamp f.stamp) (object_order e.object f.object))
-sent_total = then_total (on_total (λ (e : Emitted). e.stamp) nat_cmp_total) (on_total (λ (e : Emitted). e.object) objects_total)
+sent_total : IsTotalOrder (λ (e f : Emitted). ordering_then (nat_cmp e.stamp f.stamp) (object_order (object_told e.item) (object_told f.item)))
+sent_total = then_total (on_total (λ (e : Emitted). e.stamp) nat_cmp_total) (on_total (λ (e : Emitted). object_told e.item) objects_total)
 
 told_ranked : IsStrictWeakOrder (λ (e f : Emitted). sent_before (told e) (told f))
 told_ranked = ranks_by sent_total (λ (e : Emitted). e)
