@@ -1,15 +1,21 @@
 -- How the loop over probes ends, and what the parser answers then.
-use Rattle.std.proofs.Common.{◌≡◌, ◌≢◌, ℕ, suc, ◌<◌, ◌≤◌, true, false, List, [], ◌∷◌, ◌++◌, length, refl, ◌∙◌, ap, subst, arith, length-append}
+use Rattle.std.proofs.Common.{◌≡◌, ◌≢◌, ℕ, suc, ◌<◌, ◌≤◌, true, false, List, [], ◌∷◌, ◌++◌, length, Result, Ok, Err, refl, sym, ◌∙◌, ap, subst, arith, length-append}
+use Rattle.std.specs.Prelude.{IsErrAnd, IsOkAnd}
+use Rattle.bt_core.specs.Want.{out_of_memory}
 use Rattle.bt_core.specs.declared.limits.TheConstants.{PROBES}
 use Rattle.bt_lexer.specs.declared.token.Token.{Token}
 use Rattle.bt_ast.specs.declared.probe.Probe.{Probe}
+use Rattle.bt_parser.specs.declared.fault.Fault.{Fault}
+use Rattle.bt_parser.specs.declared.fault.Fault.TheVariants.{OutOfMemory, Syntax}
+use Rattle.bt_parser.specs.declared.script.Outcome.{Outcome}
 use Rattle.bt_parser.specs.declared.script.Outcome.TheVariants as outcomes
+use Rattle.bt_parser.specs.Contract.{Reads}
 use Rattle.bt_grammar.specs.Form.{OneProbe}
 use Rattle.bt_grammar.specs.Reading.{Done, Refused, and_then, reads}
 use Rattle.bt_grammar.specs.Tokens.{items, item}
 use Rattle.bt_grammar.specs.Counts.{probes_read}
 use Rattle.bt_grammar.specs.Grammar.{RefusedAt}
-use Rattle.bt_parser.specs.Outcomes.{Gives, another}
+use Rattle.bt_parser.specs.Outcomes.{Ends, Gives, another}
 use Rattle.bt_grammar.proofs.Steps.{length-items}
 use Rattle.bt_grammar.proofs.Counts.{one_more}
 use Rattle.bt_grammar.proofs.Scripts.{whole_end, refused_first, refused_probe, refused_behind, full_at, few_refused, few_behind}
@@ -47,6 +53,26 @@ pub read_next : (old mid left : List Token) (probes : List Probe) (p : Probe) �
 read_next old mid left probes p e h =
     let k : length (probes ++ p ∷ []) ≡ suc (length probes) = omega (arith, length-append probes (p ∷ [])) in
     ap (λ z. probes_read z (items old)) k ∙ one_more (length probes) (items old) probes (items mid) e ∙ ap (λ z. and_then z (λ q r. Done (probes ++ q ∷ []) r)) h
+
+-- the same with the list of what was read
+pub read_added : (old mid left : List Token) (probes longer : List Probe) (answer : Result Probe Fault) → Read old probes mid → Reads (reads OneProbe (items mid)) answer left
+    → IsOkAnd answer (λ probe. longer ≡ probes ++ probe ∷ []) → Read old longer left
+read_added old mid left probes longer (Ok p) e h k = subst (λ z. Read old z left) (sym k) (read_next old mid left probes p e h)
+read_added old mid left probes longer (Err d) e h k = absurd k
+
+pub few_added : (probes longer : List Probe) (answer : Result Probe Fault) → length probes ≤ PROBES → length probes ≢ PROBES → IsOkAnd answer (λ probe. longer ≡ probes ++ probe ∷ [])
+    → length longer ≤ PROBES
+few_added probes longer (Ok p) few more k = omega (arith, few, more, ap length k, length-append probes (p ∷ []))
+few_added probes longer (Err d) few more k = absurd k
+
+-- what is refused, unless there is no memory
+pub ends_refused : (old left : List Token) (e : Fault) (r : Result Outcome Fault) → IsErrAnd r (λ d. d ≡ e) → (e ≢ OutOfMemory out_of_memory → Gives old left outcomes.Refused)
+    → Ends old left r
+ends_refused old left e (Ok outcome) m h = absurd m
+ends_refused old left e (Err d) m h = λ other. h (λ x. other (m ∙ x))
+
+pub syntax_gives : (old left : List Token) → Ends old left (Err Syntax) → Gives old left outcomes.Refused
+syntax_gives old left h = h (λ q. cc (q))
 
 -- no token is left
 pub whole : (old left : List Token) (probes : List Probe) → Read old probes left → length probes ≤ PROBES → another probes (items left) ≡ false → length left ≡ 0 → Gives old left (outcomes.Whole probes)

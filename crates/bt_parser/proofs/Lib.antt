@@ -1,3 +1,4 @@
+mod Added
 mod Mirrored
 mod WordKinds
 mod DeepFrom

@@ -1,5 +1,6 @@
 -- Each part of a probe is read by its steps.
-use Rattle.std.proofs.Common.{◌≡◌, ◌<◌, Bool, true, false, List, [], ◌∷◌, ◌++◌, length, refl, sym, ◌∙◌, inr, ◌⊎◌, arith, length-append}
+use Rattle.std.proofs.Common.{◌≡◌, ◌<◌, Bool, true, false, List, [], ◌∷◌, ◌++◌, length, Result, Ok, Err, refl, sym, ◌∙◌, inr, ◌⊎◌, arith, length-append}
+use Rattle.std.specs.Prelude.{IsOkAnd}
 use Rattle.bt_ast.specs.declared.probe.Point.{Point}
 use Rattle.bt_grammar.specs.declared.class.Class.{Class}
 use Rattle.bt_core.specs.declared.operator.BinOp.TheVariants.{Div}
@@ -48,6 +49,7 @@ predicate_is (t ∷ r) = predicate_at t r (is (Operator Div) t.class) refl
 pub probe_is : (ts : List Item) → reads OneProbe ts ≡ probe_by ts
 probe_is ts = rw (reads_is OneProbe ts) (simp and_then_assoc)
 
--- a list has some item behind a push
-pub some_pushed : (new old : List Point) (point : Point) → new ≡ old ++ point ∷ [] → 0 < length new
-some_pushed new old point e = rw e (omega (arith, length-append old (point ∷ [])))
+-- a list has some item behind what was read
+pub some_added : {E : Type 0} (answer : Result Point E) (list longer : List Point) → IsOkAnd answer (λ point. longer ≡ list ++ point ∷ []) → 0 < length longer
+some_added (Ok point) list longer e = rw e (omega (arith, length-append list (point ∷ [])))
+some_added (Err e) list longer k = absurd k

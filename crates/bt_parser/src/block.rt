@@ -10,9 +10,11 @@ ghost use Rattle.bt_grammar.specs.Tokens.{items};
 use crate::agg::in_parens;
 use crate::cursor::Cursor;
 use crate::fault::Fault;
+use crate::answer::{added, until};
 use crate::simple::simple;
 use bt_ast::expr::Expr;
 use bt_ast::stmt::{Block, Stmt, StmtKind};
+use bt_core::beside::beside;
 use bt_core::items::Items;
 use bt_core::place::Place;
 use bt_grammar::class::Class;
@@ -24,9 +26,8 @@ fn turns(tokens: &mut Cursor<'_>) -> Result<i64, Fault>
     ensures shorter { OnOk result (length tokens.new < length tokens.old) }
 {
     tokens.expect(Class::OpenParen)?;
-    let number = tokens.number()?;
-    tokens.expect(Class::CloseParen)?;
-    Ok(number)
+    let number = tokens.number();
+    until(tokens, number, Class::CloseParen)
 }
 
 /// A condition in parentheses and a block.
@@ -59,14 +60,13 @@ fn branches(alloc: Global, tokens: &mut Cursor<'_>) -> Result<StmtKind, Fault>
     ensures reads { Reads (branches_by (items tokens.old)) result tokens.new }
     ensures shorter { OnOk result (length tokens.new < length tokens.old) }
 {
-    let mut arms = Items::new(alloc);
-    arms.push(arm(alloc, tokens)?)?;
+    let mut arms = added(Items::new(alloc), arm(alloc, tokens))?;
     while tokens.sees_else_if() {
         tokens.skip();
         tokens.skip();
-        arms.push(arm(alloc, tokens)?)?;
+        arms = added(arms, arm(alloc, tokens))?;
     }
-    let otherwise = otherwise(alloc, tokens)?;
+    let (arms, otherwise) = beside(arms, otherwise(alloc, tokens))?;
     Ok(StmtKind::If { arms, otherwise })
 }
 
@@ -156,7 +156,7 @@ fn body(alloc: Global, tokens: &mut Cursor<'_>) -> Result<Items<Stmt>, Fault>
 {
     let mut stmts = Items::new(alloc);
     while !tokens.sees(Class::CloseBrace) {
-        stmts.push(stmt(alloc, tokens)?)?;
+        stmts = added(stmts, stmt(alloc, tokens))?;
     }
     tokens.skip();
     Ok(stmts)

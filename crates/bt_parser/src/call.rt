@@ -8,6 +8,7 @@ ghost use Rattle.bt_parser.specs.Statements.{bare_map, behind_word, clear_by, cl
 ghost use Rattle.bt_grammar.specs.Tables.{is_call};
 ghost use Rattle.bt_grammar.specs.Tokens.{items};
 
+use crate::answer::until;
 use crate::cursor::{Cursor, Named};
 use crate::expr::{value_until, values};
 use crate::fault::Fault;
@@ -37,9 +38,8 @@ fn map_in_parens(alloc: Global, tokens: &mut Cursor<'_>) -> Result<MapRef, Fault
     ensures shorter { OnOk result (length tokens.new < length tokens.old) }
 {
     tokens.expect(Class::OpenParen)?;
-    let map = whole_map(alloc, tokens)?;
-    tokens.expect(Class::CloseParen)?;
-    Ok(map)
+    let map = whole_map(alloc, tokens);
+    until(tokens, map, Class::CloseParen)
 }
 
 /// The values of a format, each behind a comma.
@@ -60,9 +60,8 @@ fn closed_values(alloc: Global, tokens: &mut Cursor<'_>) -> Result<Items<Expr>, 
     ensures reads { Reads (closed_values_by (items tokens.old)) result tokens.new }
     ensures shorter { OnOk result (length tokens.new < length tokens.old) }
 {
-    let values = format_values(alloc, tokens)?;
-    tokens.expect(Class::CloseParen)?;
-    Ok(values)
+    let values = format_values(alloc, tokens);
+    until(tokens, values, Class::CloseParen)
 }
 
 /// What is printed by a format, behind the word `printf`.
@@ -109,9 +108,8 @@ fn closed_limits(tokens: &mut Cursor<'_>) -> Result<(Option<i64>, Option<i64>), 
     ensures reads { Reads (closed_limits_by (items tokens.old)) result tokens.new }
     ensures shorter { OnOk result (length tokens.new < length tokens.old) }
 {
-    let limits = limits(tokens)?;
-    tokens.expect(Class::CloseParen)?;
-    Ok(limits)
+    let limits = limits(tokens);
+    until(tokens, limits, Class::CloseParen)
 }
 
 /// Which map is printed, behind the word `print`.

@@ -12,6 +12,7 @@ ghost use Rattle.bt_grammar.specs.Trees.{binary_kind, expr, place_of_expr};
 use crate::cursor::{Cursor, Named};
 use crate::fault::Fault;
 use crate::leaf::{leaf, map_value, step_value};
+use crate::answer::{added, until};
 use crate::tables::tighter;
 use bt_ast::expr::{Expr, ExprKind, MapRef, Target, VarRef};
 use bt_core::boxed::Boxed;
@@ -153,9 +154,8 @@ pub fn value_until(alloc: Global, tokens: &mut Cursor<'_>, class: Class) -> Resu
     ensures reads { Reads (read reads (Until value class) (items tokens.old)) result tokens.new }
     ensures shorter { OnOk result (length tokens.new < length tokens.old) }
 {
-    let value = expression(alloc, tokens, false)?;
-    tokens.expect(class)?;
-    Ok(value)
+    let value = expression(alloc, tokens, false);
+    until(tokens, value, class)
 }
 
 /// Operands joined by operators of the tier, from the left.
@@ -296,9 +296,8 @@ fn keys(alloc: Global, tokens: &mut Cursor<'_>) -> Result<Items<Expr>, Fault>
         return Ok(none);
     }
     tokens.skip();
-    let keys = values(alloc, tokens, none)?;
-    tokens.expect(Class::CloseBracket)?;
-    Ok(keys)
+    let keys = values(alloc, tokens, none);
+    until(tokens, keys, Class::CloseBracket)
 }
 
 /// A map or a variable.
@@ -324,11 +323,10 @@ pub fn values(
     ensures reads { Reads (values_behind front (items tokens.old)) result tokens.new }
     ensures shorter { OnOk result (length tokens.new < length tokens.old) }
 {
-    let mut values = front;
-    values.push(expression(alloc, tokens, false)?)?;
+    let mut values = added(front, expression(alloc, tokens, false))?;
     while tokens.sees(Class::Comma) {
         tokens.skip();
-        values.push(expression(alloc, tokens, false)?)?;
+        values = added(values, expression(alloc, tokens, false))?;
     }
     Ok(values)
 }

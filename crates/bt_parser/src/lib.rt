@@ -2,6 +2,7 @@
 #![tactic(auto)]
 
 mod agg;
+mod answer;
 mod assign;
 mod attach;
 mod block;

@@ -10,6 +10,7 @@ use crate::block::block;
 use crate::cursor::Cursor;
 use crate::expr::expression;
 use crate::fault::Fault;
+use crate::answer::added;
 use crate::point::place_of_points;
 use bt_ast::expr::Expr;
 use bt_ast::probe::{Point, Probe};
@@ -25,11 +26,10 @@ fn points(alloc: Global, tokens: &mut Cursor<'_>) -> Result<Items<Point>, Fault>
     ensures shorter { OnOk result (length tokens.new < length tokens.old) }
     ensures some { IfOk result (λ points. 0 < length points) }
 {
-    let mut points = Items::new(alloc);
-    points.push(tokens.point(alloc)?)?;
+    let mut points = added(Items::new(alloc), tokens.point(alloc))?;
     while tokens.sees(Class::Comma) {
         tokens.skip();
-        points.push(tokens.point(alloc)?)?;
+        points = added(points, tokens.point(alloc))?;
     }
     Ok(points)
 }

@@ -1,13 +1,13 @@
 // The probes of a script, and how many there may be.
-ghost use Rattle.std.specs.Prelude.{◌≡◌, ◌<◌, ◌≤◌, IfOk, IfSome, length};
+ghost use Rattle.std.specs.Prelude.{◌≡◌, ◌≤◌, IfOk, OnOk, length};
 ghost use Rattle.bt_grammar.specs.Classes.{is_point};
-ghost use Rattle.bt_grammar.specs.Form.{OneProbe};
-ghost use Rattle.bt_parser.specs.Outcomes.{Gives, Tells, another};
-ghost use Rattle.bt_grammar.specs.Reading.{reads, starts};
+ghost use Rattle.bt_parser.specs.Outcomes.{Ends, Gives, another};
+ghost use Rattle.bt_grammar.specs.Reading.{starts};
 ghost use Rattle.bt_grammar.specs.Tokens.{items};
 
 use crate::cursor::Cursor;
 use crate::fault::Fault;
+use crate::answer::added;
 use crate::probe::probe;
 use crate::tables::is_point;
 use bt_ast::probe::Probe;
@@ -47,15 +47,22 @@ fn another(probes: &Items<Probe>, tokens: &Cursor<'_>) -> bool
     probes.is_empty() || begins_probe(tokens)
 }
 
-/// The next probe, or `None` where it is refused.
-fn next_probe(alloc: Global, tokens: &mut Cursor<'_>) -> Result<Option<Probe>, Memory>
-    ensures reads { IfOk result (λ found. Tells (reads OneProbe (items tokens.old)) found (items tokens.new)) }
-    ensures shorter { IfOk result (λ found. IfSome found (λ _. length tokens.new < length tokens.old)) }
+/// The probes of all tokens that are left, or why they are no script.
+fn probes(alloc: Global, tokens: &mut Cursor<'_>) -> Result<Outcome, Fault>
+    ensures outcome { Ends tokens.old tokens.new result }
+    ensures no_longer { OnOk result (length tokens.new ≤ length tokens.old) }
 {
-    match probe(alloc, tokens) {
-        Ok(probe) => Ok(Some(probe)),
-        Err(Fault::Syntax) => Ok(None),
-        Err(Fault::OutOfMemory(memory)) => Err(memory),
+    let mut probes = Items::new(alloc);
+    while another(&probes, tokens) {
+        if probes.len() == MOST_PROBES {
+            return Ok(Outcome::Full);
+        }
+        probes = added(probes, probe(alloc, tokens))?;
+    }
+    if tokens.left() == 0 {
+        Ok(Outcome::Whole(probes))
+    } else {
+        Ok(Outcome::Refused)
     }
 }
 
@@ -64,19 +71,9 @@ pub fn script(alloc: Global, tokens: &mut Cursor<'_>) -> Result<Outcome, Memory>
     ensures outcome { IfOk result (λ outcome. Gives tokens.old tokens.new outcome) }
     ensures no_longer { IfOk result (λ _. length tokens.new ≤ length tokens.old) }
 {
-    let mut probes = Items::new(alloc);
-    while another(&probes, tokens) {
-        if probes.len() == MOST_PROBES {
-            return Ok(Outcome::Full);
-        }
-        match next_probe(alloc, tokens)? {
-            Some(probe) => probes.push(probe)?,
-            None => return Ok(Outcome::Refused),
-        }
-    }
-    if tokens.left() == 0 {
-        Ok(Outcome::Whole(probes))
-    } else {
-        Ok(Outcome::Refused)
+    match probes(alloc, tokens) {
+        Ok(outcome) => Ok(outcome),
+        Err(Fault::Syntax) => Ok(Outcome::Refused),
+        Err(Fault::OutOfMemory(memory)) => Err(memory),
     }
 }

@@ -1,9 +1,11 @@
-use Rattle.std.proofs.Common.{refl, rules, arith}
-use Rattle.std.proofs.lemmas.Grind.{common_steps}
+use Rattle.std.proofs.Common.{[], refl, rules, sym}
+use Rattle.bt_ast.specs.declared.stmt.StmtKind.TheVariants as stmts
+use Rattle.bt_parser.proofs.Added.{added_on, added_reads, beside_on, beside_reads, refused_added}
+use Rattle.bt_parser.specs.Statements.{arms_on, body_on}
 use Rattle.bt_grammar.specs.Tokens.{items}
 use Rattle.bt_parser.proofs.Blocks.{arm_is, arms_turns, block_is, body_start, body_turns, control_is, second_left}
 use Rattle.bt_parser.proofs.Mirrored.{on_err, refused_reads, shorter_on}
-use Rattle.std.proofs.Math.Nat.{lt_trans, le_of_lt, lt_of_le_of_lt, lt_of_lt_of_le}
+use Rattle.std.proofs.Math.Nat.{lt_trans, le_of_lt, le_refl, lt_of_le_of_lt, lt_of_lt_of_le}
 use Rattle.bt_parser.proofs.block.+block.Goals as goal
 
 pub arm-returns-in_err-condition-clause-reads : goal.arm-returns-in_err-condition-clause-reads
@@ -25,34 +27,29 @@ pub block-returns-clause-reads : goal.block-returns-clause-reads
 block-returns-clause-reads t c = rw (block_is (items c.args.tokens.now), c.in_ok-place.ensures.reads, c.in_ok-stmts.ensures.reads) refl
 
 pub body-loop-alloc-init : goal.body-loop-alloc-init
-body-loop-alloc-init t c = let e = body_start (items c.args.tokens.now) in (first_of (search rules, grind (arith, common_steps)))
+body-loop-alloc-init t c = (rw c.new-stmts.ensures (sym (body_start (items c.args.tokens.now))), le_refl _)
 
-pub body-returns-in_err-stmt-clause-reads : goal.body-returns-in_err-stmt-clause-reads
-body-returns-in_err-stmt-clause-reads t c = refused_reads _ _ _ _ c.from_residual.ensures.1 (λ other. rw (← c.loop-alloc.invariant.0, body_turns c.loop-alloc.stmts (items c.loop-alloc.tokens), ← c.loop-alloc-test.ensures.class, c.in_err-stmt.ensures.reads other) refl)
+pub body-returns-in_err-stmts-clause-reads : goal.body-returns-in_err-stmts-clause-reads
+body-returns-in_err-stmts-clause-reads t c = refused_reads _ _ _ _ c.from_residual.ensures.1 (λ other. rw (← c.loop-alloc.invariant.0, body_turns c.loop-alloc.stmts (items c.loop-alloc.tokens), ← c.loop-alloc-test.ensures.class, refused_added _ _ _ _ c.stmt.ensures.reads c.in_err-stmts.ensures other) refl)
 
 pub body-returns-clause-reads : goal.body-returns-clause-reads
 body-returns-clause-reads t c = rw (← c.loop-alloc.invariant.0, body_turns c.loop-alloc.stmts (items c.loop-alloc.tokens), ← c.loop-alloc-test.ensures.class, c.skip.ensures.items) refl
 
 pub body-loop-alloc-preserved : goal.body-loop-alloc-preserved
 body-loop-alloc-preserved t c = (
-  rw (
-    ← c.loop-alloc.invariant.0,
-    body_turns c.loop-alloc.stmts (items c.loop-alloc.tokens),
-    ← c.loop-alloc-test.ensures.class,
-    c.in_ok-stmt.ensures.reads,
-    c.in_ok-push.ensures.ok,
-  ) refl,
-  le_of_lt (lt_of_lt_of_le c.in_ok-stmt.ensures.shorter c.loop-alloc.invariant.1),
+  rw (← c.loop-alloc.invariant.0, body_turns c.loop-alloc.stmts (items c.loop-alloc.tokens), ← c.loop-alloc-test.ensures.class)
+    (added_reads body_on _ _ _ _ _ c.stmt.ensures.reads c.in_ok-stmts.ensures),
+  le_of_lt (lt_of_lt_of_le (added_on _ _ _ _ c.stmt.ensures.shorter c.in_ok-stmts.ensures) c.loop-alloc.invariant.1),
 )
 
-pub branches-returns-in_err-arm-2-clause-reads : goal.branches-returns-in_err-arm-2-clause-reads
-branches-returns-in_err-arm-2-clause-reads t c = refused_reads _ _ _ _ c.from_residual-in_err-arm-2.ensures.1 (λ other. rw (← c.loop-tokens.invariant.0, arms_turns c.loop-tokens.arms (items c.loop-tokens.tokens), ← c.loop-tokens-test.ensures.class, ← c.skip.ensures.items, ← c.skip-in-loop-tokens.ensures.items, c.in_err-arm-2.ensures.reads other) refl)
+pub branches-returns-in_err-arms-2-clause-reads : goal.branches-returns-in_err-arms-2-clause-reads
+branches-returns-in_err-arms-2-clause-reads t c = refused_reads _ _ _ _ c.from_residual-in_err-arms-2.ensures.1 (λ other. rw (← c.loop-tokens.invariant.0, arms_turns c.loop-tokens.arms (items c.loop-tokens.tokens), ← c.loop-tokens-test.ensures.class, ← c.skip.ensures.items, ← c.skip-in-loop-tokens.ensures.items, refused_added _ _ _ _ c.arm-in-loop-tokens.ensures.reads c.in_err-arms-2.ensures other) refl)
 
-pub branches-returns-in_err-otherwise-clause-reads : goal.branches-returns-in_err-otherwise-clause-reads
-branches-returns-in_err-otherwise-clause-reads t c = refused_reads _ _ _ _ c.from_residual-in_err-otherwise.ensures.1 (λ other. rw (← c.loop-tokens.invariant.0, arms_turns c.loop-tokens.arms (items c.loop-tokens.tokens), ← c.loop-tokens-test.ensures.class, c.in_err-otherwise.ensures.reads other) refl)
+pub branches-returns-in_err-arms-3-clause-reads : goal.branches-returns-in_err-arms-3-clause-reads
+branches-returns-in_err-arms-3-clause-reads t c = refused_reads _ _ _ _ c.from_residual-in_err-arms-3.ensures.1 (λ other. rw (← c.loop-tokens.invariant.0, arms_turns c.loop-tokens.arms (items c.loop-tokens.tokens), ← c.loop-tokens-test.ensures.class, refused_added _ _ _ _ c.otherwise.ensures.reads (λ _. c.in_err-arms-3.ensures) other) refl)
 
 pub branches-returns-clause-reads : goal.branches-returns-clause-reads
-branches-returns-clause-reads t c = rw (← c.loop-tokens.invariant.0, arms_turns c.loop-tokens.arms (items c.loop-tokens.tokens), ← c.loop-tokens-test.ensures.class, c.in_ok-otherwise.ensures.reads) refl
+branches-returns-clause-reads t c = rw (← c.loop-tokens.invariant.0, arms_turns c.loop-tokens.arms (items c.loop-tokens.tokens), ← c.loop-tokens-test.ensures.class) (beside_reads stmts.If _ _ _ _ _ _ c.otherwise.ensures.reads c.in_ok-arms-3.ensures)
 
 pub branches-loop-tokens-preserved : goal.branches-loop-tokens-preserved
 branches-loop-tokens-preserved t c = (
@@ -62,10 +59,9 @@ branches-loop-tokens-preserved t c = (
     ← c.loop-tokens-test.ensures.class,
     ← c.skip.ensures.items,
     ← c.skip-in-loop-tokens.ensures.items,
-    c.in_ok-arm-2.ensures.reads,
-    c.in_ok-push-2.ensures.ok,
-  ) refl,
-  lt_trans c.in_ok-arm-2.ensures.shorter (lt_trans c.skip-in-loop-tokens.ensures.shorter (lt_trans c.skip.ensures.shorter c.loop-tokens.invariant.1)),
+  ) (added_reads arms_on _ _ _ _ _ c.arm-in-loop-tokens.ensures.reads c.in_ok-arms-2.ensures),
+  lt_trans (added_on _ _ _ _ c.arm-in-loop-tokens.ensures.shorter c.in_ok-arms-2.ensures)
+    (lt_trans c.skip-in-loop-tokens.ensures.shorter (lt_trans c.skip.ensures.shorter c.loop-tokens.invariant.1)),
 )
 
 pub control-returns-then-sees-clause-reads : goal.control-returns-then-sees-clause-reads
@@ -89,20 +85,20 @@ block-returns-in_err-place-clause-shorter t c = on_err _ _ c.from_residual.ensur
 pub block-returns-in_err-stmts-clause-shorter : goal.block-returns-in_err-stmts-clause-shorter
 block-returns-in_err-stmts-clause-shorter t c = on_err _ _ c.from_residual-in_err-stmts.ensures.0
 
-pub body-returns-in_err-stmt-clause-shorter : goal.body-returns-in_err-stmt-clause-shorter
-body-returns-in_err-stmt-clause-shorter t c = on_err _ _ c.from_residual.ensures.0
+pub body-returns-in_err-stmts-clause-shorter : goal.body-returns-in_err-stmts-clause-shorter
+body-returns-in_err-stmts-clause-shorter t c = on_err _ _ c.from_residual.ensures.0
 
-pub branches-returns-in_err-arm-2-clause-shorter : goal.branches-returns-in_err-arm-2-clause-shorter
-branches-returns-in_err-arm-2-clause-shorter t c = on_err _ _ c.from_residual-in_err-arm-2.ensures.0
+pub branches-returns-in_err-arms-2-clause-shorter : goal.branches-returns-in_err-arms-2-clause-shorter
+branches-returns-in_err-arms-2-clause-shorter t c = on_err _ _ c.from_residual-in_err-arms-2.ensures.0
 
-pub branches-returns-in_err-otherwise-clause-shorter : goal.branches-returns-in_err-otherwise-clause-shorter
-branches-returns-in_err-otherwise-clause-shorter t c = on_err _ _ c.from_residual-in_err-otherwise.ensures.0
+pub branches-returns-in_err-arms-3-clause-shorter : goal.branches-returns-in_err-arms-3-clause-shorter
+branches-returns-in_err-arms-3-clause-shorter t c = on_err _ _ c.from_residual-in_err-arms-3.ensures.0
 
-pub branches-returns-in_err-arm-clause-reads : goal.branches-returns-in_err-arm-clause-reads
-branches-returns-in_err-arm-clause-reads t c = refused_reads _ _ _ _ c.from_residual.ensures.1 (λ other. rw (c.in_err-arm.ensures.reads other) refl)
+pub branches-returns-in_err-arms-clause-reads : goal.branches-returns-in_err-arms-clause-reads
+branches-returns-in_err-arms-clause-reads t c = refused_reads _ _ _ _ c.from_residual.ensures.1 (λ other. rw (refused_added _ _ _ _ c.arm.ensures.reads c.in_err-arms.ensures other) refl)
 
-pub branches-returns-in_err-arm-clause-shorter : goal.branches-returns-in_err-arm-clause-shorter
-branches-returns-in_err-arm-clause-shorter t c = on_err _ _ c.from_residual.ensures.0
+pub branches-returns-in_err-arms-clause-shorter : goal.branches-returns-in_err-arms-clause-shorter
+branches-returns-in_err-arms-clause-shorter t c = on_err _ _ c.from_residual.ensures.0
 
 pub otherwise-returns-then-not-sees-clause-reads : goal.otherwise-returns-then-not-sees-clause-reads
 otherwise-returns-then-not-sees-clause-reads t c = rw (← c.if-not-sees.ensures.class) refl
@@ -189,13 +185,13 @@ pub stmt-returns-else-begins_control-clause-reads : goal.stmt-returns-else-begin
 stmt-returns-else-begins_control-clause-reads t c = rw (← c.if-begins_control.ensures) c.ended.ensures.reads
 
 pub body-loop-alloc-smaller : goal.body-loop-alloc-smaller
-body-loop-alloc-smaller t c = c.in_ok-stmt.ensures.shorter
+body-loop-alloc-smaller t c = added_on _ _ _ _ c.stmt.ensures.shorter c.in_ok-stmts.ensures
 
 pub branches-loop-tokens-smaller : goal.branches-loop-tokens-smaller
-branches-loop-tokens-smaller t c = lt_trans c.in_ok-arm-2.ensures.shorter (lt_trans c.skip-in-loop-tokens.ensures.shorter c.skip.ensures.shorter)
+branches-loop-tokens-smaller t c = lt_trans (added_on _ _ _ _ c.arm-in-loop-tokens.ensures.shorter c.in_ok-arms-2.ensures) (lt_trans c.skip-in-loop-tokens.ensures.shorter c.skip.ensures.shorter)
 
 pub branches-returns-clause-shorter : goal.branches-returns-clause-shorter
-branches-returns-clause-shorter t c = lt_of_le_of_lt c.in_ok-otherwise.ensures.no_longer c.loop-tokens.invariant.1
+branches-returns-clause-shorter t c = lt_of_le_of_lt (beside_on _ _ _ c.otherwise.ensures.no_longer c.in_ok-arms-3.ensures.1) c.loop-tokens.invariant.1
 
 pub body-returns-clause-shorter : goal.body-returns-clause-shorter
 body-returns-clause-shorter t c = lt_of_lt_of_le c.skip.ensures.shorter c.loop-alloc.invariant.1
@@ -210,4 +206,4 @@ pub block-returns-clause-shorter : goal.block-returns-clause-shorter
 block-returns-clause-shorter t c = lt_trans c.in_ok-stmts.ensures.shorter c.in_ok-place.ensures.shorter
 
 pub branches-loop-tokens-init : goal.branches-loop-tokens-init
-branches-loop-tokens-init t c = (rw (c.in_ok-arm.ensures.reads, c.in_ok-push.ensures.ok, c.new-arms.ensures) refl, c.in_ok-arm.ensures.shorter)
+branches-loop-tokens-init t c = (added_reads arms_on _ _ _ [] _ c.arm.ensures.reads (rw c.new.ensures at c.in_ok-arms.ensures), added_on _ _ _ _ c.arm.ensures.shorter c.in_ok-arms.ensures)

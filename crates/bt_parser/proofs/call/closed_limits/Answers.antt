@@ -1,18 +1,7 @@
-use Rattle.std.proofs.Common.{refl}
-use Rattle.bt_parser.proofs.Mirrored.{on_err, refused_reads}
 use Rattle.bt_parser.proofs.call.closed_limits.Goals as goal
 
-pub returns-in_err-limits-clause-reads : goal.returns-in_err-limits-clause-reads
-returns-in_err-limits-clause-reads c = refused_reads _ _ _ _ c.from_residual.ensures.1 (λ other. rw (c.in_err-limits.ensures.reads other) refl)
-
-pub returns-in_err-limits-clause-shorter : goal.returns-in_err-limits-clause-shorter
-returns-in_err-limits-clause-shorter c = on_err _ _ c.from_residual.ensures.0
-
-pub returns-in_err-expect-clause-reads : goal.returns-in_err-expect-clause-reads
-returns-in_err-expect-clause-reads c = refused_reads _ _ _ _ c.from_residual-in_err-expect.ensures.1 (λ other. rw (c.in_ok-limits.ensures.reads, c.in_err-expect.ensures.reads other) refl)
-
-pub returns-in_err-expect-clause-shorter : goal.returns-in_err-expect-clause-shorter
-returns-in_err-expect-clause-shorter c = on_err _ _ c.from_residual-in_err-expect.ensures.0
-
 pub returns-clause-reads : goal.returns-clause-reads
-returns-clause-reads c = rw (c.in_ok-limits.ensures.reads, c.in_ok-expect.ensures.reads) refl
+returns-clause-reads c = c.until.ensures.reads _ c.limits-limits.ensures.reads
+
+pub returns-clause-shorter : goal.returns-clause-shorter
+returns-clause-shorter c = c.until.ensures.shorter _ c.limits-limits.ensures.no_longer

@@ -1,6 +1,6 @@
 use Rattle.std.proofs.Common.{refl}
 use Rattle.bt_grammar.specs.Tokens.{items}
-use Rattle.bt_parser.proofs.Mirrored.{on_err, refused_reads}
+use Rattle.bt_parser.proofs.Mirrored.{no_longer_on, on_err, refused_reads, shorter_on}
 use Rattle.bt_parser.proofs.Stated.{map_in_parens_is}
 use Rattle.bt_parser.proofs.call.map_in_parens.Goals as goal
 
@@ -10,17 +10,8 @@ returns-in_err-expect-clause-reads c = refused_reads _ _ _ _ c.from_residual.ens
 pub returns-in_err-expect-clause-shorter : goal.returns-in_err-expect-clause-shorter
 returns-in_err-expect-clause-shorter c = on_err _ _ c.from_residual.ensures.0
 
-pub returns-in_err-map-clause-reads : goal.returns-in_err-map-clause-reads
-returns-in_err-map-clause-reads c = refused_reads _ _ _ _ c.from_residual-in_err-map.ensures.1 (λ other. rw (map_in_parens_is (items c.args.tokens.now), c.in_ok-expect.ensures.reads, c.in_err-map.ensures.reads other) refl)
-
-pub returns-in_err-map-clause-shorter : goal.returns-in_err-map-clause-shorter
-returns-in_err-map-clause-shorter c = on_err _ _ c.from_residual-in_err-map.ensures.0
-
-pub returns-in_err-expect-2-clause-reads : goal.returns-in_err-expect-2-clause-reads
-returns-in_err-expect-2-clause-reads c = refused_reads _ _ _ _ c.from_residual-in_err-expect-2.ensures.1 (λ other. rw (map_in_parens_is (items c.args.tokens.now), c.in_ok-expect.ensures.reads, c.in_ok-map.ensures.reads, c.in_err-expect-2.ensures.reads other) refl)
-
-pub returns-in_err-expect-2-clause-shorter : goal.returns-in_err-expect-2-clause-shorter
-returns-in_err-expect-2-clause-shorter c = on_err _ _ c.from_residual-in_err-expect-2.ensures.0
-
 pub returns-clause-reads : goal.returns-clause-reads
-returns-clause-reads c = rw (map_in_parens_is (items c.args.tokens.now), c.in_ok-expect.ensures.reads, c.in_ok-map.ensures.reads, c.in_ok-expect-2.ensures.reads) refl
+returns-clause-reads c = rw (map_in_parens_is (items c.args.tokens.now), c.in_ok-expect.ensures.reads) (c.until.ensures.reads _ c.whole_map-map.ensures.reads)
+
+pub returns-clause-shorter : goal.returns-clause-shorter
+returns-clause-shorter c = c.until.ensures.shorter _ (no_longer_on _ _ _ (shorter_on _ _ _ _ c.whole_map-map.ensures.shorter c.in_ok-expect.ensures.shorter))

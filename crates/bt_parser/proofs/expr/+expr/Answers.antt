@@ -1,7 +1,10 @@
 use Rattle.std.proofs.Common.{refl, rules, arith}
 use Rattle.std.proofs.lemmas.Grind.{common_steps}
 use Rattle.bt_grammar.specs.Tokens.{items}
-use Rattle.bt_parser.proofs.Mirrored.{assignable_is, expression_is, keyed_is, level_is, level_turns, made_reads, not_passed, passed, primary_is, refused_reads, on_ok, on_err, unary_is, values_turns, shorter_on}
+use Rattle.bt_parser.proofs.Added.{added_on, added_reads, refused_added, until_is}
+use Rattle.bt_grammar.specs.Rules.{value}
+use Rattle.bt_parser.specs.Mirror.{values_on}
+use Rattle.bt_parser.proofs.Mirrored.{assignable_is, expression_is, keyed_is, level_is, level_turns, made_reads, no_longer_on, primary_is, refused_reads, on_ok, on_err, unary_is, values_turns, shorter_on}
 use Rattle.std.proofs.Math.Nat.{lt_trans, le_of_lt, lt_of_le_of_lt}
 use Rattle.bt_parser.proofs.expr.+expr.Goals as goal
 
@@ -98,8 +101,8 @@ unary-returns-in_err-value-clause-reads t c = refused_reads _ _ _ _ c.from_resid
 pub unary-returns-clause-reads : goal.unary-returns-clause-reads
 unary-returns-clause-reads t c = made_reads _ _ _ _ c.operated.ensures (rw (unary_is (items c.args.tokens.now), ← c.in-Some.ensures.class, ← c.skip-place.ensures.items, ← c.skip-place.ensures.place, c.in_ok-value.ensures.reads) refl)
 
-pub values-returns-in_err-expression-2-clause-reads : goal.values-returns-in_err-expression-2-clause-reads
-values-returns-in_err-expression-2-clause-reads t c = refused_reads _ _ _ _ c.from_residual-in_err-expression-2.ensures.1 (λ other. rw (← c.loop-alloc.invariant.0, values_turns c.loop-alloc.values (items c.loop-alloc.tokens), ← c.loop-alloc-test.ensures.class, ← c.skip.ensures.items, c.in_err-expression-2.ensures.reads other) refl)
+pub values-returns-in_err-values-2-clause-reads : goal.values-returns-in_err-values-2-clause-reads
+values-returns-in_err-values-2-clause-reads t c = refused_reads _ _ _ _ c.from_residual-in_err-values-2.ensures.1 (λ other. rw (← c.loop-alloc.invariant.0, values_turns c.loop-alloc.values (items c.loop-alloc.tokens), ← c.loop-alloc-test.ensures.class, ← c.skip.ensures.items, refused_added _ _ _ _ c.expression-in-loop-alloc.ensures.reads c.in_err-values-2.ensures other) refl)
 
 pub values-returns-clause-reads : goal.values-returns-clause-reads
 values-returns-clause-reads t c = rw (← c.loop-alloc.invariant.0, values_turns c.loop-alloc.values (items c.loop-alloc.tokens), ← c.loop-alloc-test.ensures.class) refl
@@ -111,10 +114,8 @@ values-loop-alloc-preserved t c = (
     values_turns c.loop-alloc.values (items c.loop-alloc.tokens),
     ← c.loop-alloc-test.ensures.class,
     ← c.skip.ensures.items,
-    c.in_ok-expression-2.ensures.reads,
-    c.in_ok-push-2.ensures.ok,
-  ) refl,
-  lt_trans c.in_ok-expression-2.ensures.shorter (lt_trans c.skip.ensures.shorter c.loop-alloc.invariant.1),
+  ) (added_reads values_on _ _ _ _ _ c.expression-in-loop-alloc.ensures.reads c.in_ok-values-2.ensures),
+  lt_trans (added_on _ _ _ _ c.expression-in-loop-alloc.ensures.shorter c.in_ok-values-2.ensures) (lt_trans c.skip.ensures.shorter c.loop-alloc.invariant.1),
 )
 
 pub alternatives-returns-in_err-yes-clause-reads : goal.alternatives-returns-in_err-yes-clause-reads
@@ -171,12 +172,6 @@ keyed-returns-in_err-bytes-clause-shorter t c = on_err _ _ c.from_residual.ensur
 pub keyed-returns-in_err-keys-clause-shorter : goal.keyed-returns-in_err-keys-clause-shorter
 keyed-returns-in_err-keys-clause-shorter t c = on_err _ _ c.from_residual-in_err-keys.ensures.0
 
-pub keys-returns-in_err-keys-clause-no_longer : goal.keys-returns-in_err-keys-clause-no_longer
-keys-returns-in_err-keys-clause-no_longer t c = on_err _ _ c.from_residual.ensures.0
-
-pub keys-returns-in_err-expect-clause-no_longer : goal.keys-returns-in_err-expect-clause-no_longer
-keys-returns-in_err-expect-clause-no_longer t c = on_err _ _ c.from_residual-in_err-expect.ensures.0
-
 pub level-returns-in_err-left-clause-shorter : goal.level-returns-in_err-left-clause-shorter
 level-returns-in_err-left-clause-shorter t c = on_err _ _ c.from_residual.ensures.0
 
@@ -195,35 +190,17 @@ stepped-returns-in_err-target-clause-shorter t c = on_err _ _ c.from_residual.en
 pub unary-returns-in_err-value-clause-shorter : goal.unary-returns-in_err-value-clause-shorter
 unary-returns-in_err-value-clause-shorter t c = on_err _ _ c.from_residual.ensures.0
 
-pub value_until-returns-in_err-value-clause-reads : goal.value_until-returns-in_err-value-clause-reads
-value_until-returns-in_err-value-clause-reads t c = refused_reads _ _ _ _ c.from_residual.ensures.1 (λ other. rw (c.in_err-value.ensures.reads other) refl)
+pub values-returns-in_err-values-clause-reads : goal.values-returns-in_err-values-clause-reads
+values-returns-in_err-values-clause-reads t c = refused_reads _ _ _ _ c.from_residual.ensures.1 (λ other. rw (refused_added _ _ _ _ c.expression.ensures.reads c.in_err-values.ensures other) refl)
 
-pub value_until-returns-in_err-value-clause-shorter : goal.value_until-returns-in_err-value-clause-shorter
-value_until-returns-in_err-value-clause-shorter t c = on_err _ _ c.from_residual.ensures.0
+pub values-returns-in_err-values-clause-shorter : goal.values-returns-in_err-values-clause-shorter
+values-returns-in_err-values-clause-shorter t c = on_err _ _ c.from_residual.ensures.0
 
-pub value_until-returns-in_err-expect-clause-shorter : goal.value_until-returns-in_err-expect-clause-shorter
-value_until-returns-in_err-expect-clause-shorter t c = on_err _ _ c.from_residual-in_err-expect.ensures.0
-
-pub values-returns-in_err-expression-clause-reads : goal.values-returns-in_err-expression-clause-reads
-values-returns-in_err-expression-clause-reads t c = refused_reads _ _ _ _ c.from_residual.ensures.1 (λ other. rw (c.in_err-expression.ensures.reads other) refl)
-
-pub values-returns-in_err-expression-clause-shorter : goal.values-returns-in_err-expression-clause-shorter
-values-returns-in_err-expression-clause-shorter t c = on_err _ _ c.from_residual.ensures.0
-
-pub values-returns-in_err-push-clause-shorter : goal.values-returns-in_err-push-clause-shorter
-values-returns-in_err-push-clause-shorter t c = on_err _ _ c.from_residual-in_err-push.ensures.0
-
-pub values-returns-in_err-expression-2-clause-shorter : goal.values-returns-in_err-expression-2-clause-shorter
-values-returns-in_err-expression-2-clause-shorter t c = on_err _ _ c.from_residual-in_err-expression-2.ensures.0
-
-pub values-returns-in_err-push-2-clause-shorter : goal.values-returns-in_err-push-2-clause-shorter
-values-returns-in_err-push-2-clause-shorter t c = on_err _ _ c.from_residual-in_err-push-2.ensures.0
-
-pub value_until-returns-in_err-expect-clause-reads : goal.value_until-returns-in_err-expect-clause-reads
-value_until-returns-in_err-expect-clause-reads t c = refused_reads _ _ _ _ c.from_residual-in_err-expect.ensures.1 (λ other. rw c.in_ok-value.ensures.reads (not_passed _ _ _ _ (c.in_err-expect.ensures.reads other)))
+pub values-returns-in_err-values-2-clause-shorter : goal.values-returns-in_err-values-2-clause-shorter
+values-returns-in_err-values-2-clause-shorter t c = on_err _ _ c.from_residual-in_err-values-2.ensures.0
 
 pub value_until-returns-clause-reads : goal.value_until-returns-clause-reads
-value_until-returns-clause-reads t c = rw c.in_ok-value.ensures.reads (passed _ _ _ _ _ c.in_ok-expect.ensures.reads)
+value_until-returns-clause-reads t c = rw (until_is c.args.class value (items c.args.tokens.now)) (c.until.ensures.reads _ c.expression-value.ensures.reads)
 
 pub operand-returns-in-None-clause-reads : goal.operand-returns-in-None-clause-reads
 operand-returns-in-None-clause-reads t c = rw c.in-None.is c.unary.ensures.reads
@@ -235,13 +212,7 @@ pub stepped-returns-clause-reads : goal.stepped-returns-clause-reads
 stepped-returns-clause-reads t c = rw (c.in_ok-target.ensures.reads, c.step_value.ensures) refl
 
 pub keys-returns-clause-reads : goal.keys-returns-clause-reads
-keys-returns-clause-reads t c =
-    let v = rw c.new-none.ensures at c.in_ok-keys.ensures.reads in rw (
-      ← c.if-not-sees.ensures.class,
-      ← c.skip.ensures.items,
-      v,
-      c.in_ok-expect.ensures.reads,
-    ) refl
+keys-returns-clause-reads t c = let v = rw c.new-none.ensures at c.values-keys.ensures.reads in rw (← c.if-not-sees.ensures.class, ← c.skip.ensures.items) (c.until.ensures.reads _ v)
 
 pub keys-returns-then-not-sees-clause-reads : goal.keys-returns-then-not-sees-clause-reads
 keys-returns-then-not-sees-clause-reads t c = rw (← c.if-not-sees.ensures.class, c.new-none.ensures) refl
@@ -250,7 +221,7 @@ pub keys-skip-requires : goal.keys-skip-requires
 keys-skip-requires t c = c.if-not-sees.ensures.some refl
 
 pub keys-returns-clause-no_longer : goal.keys-returns-clause-no_longer
-keys-returns-clause-no_longer t c = le_of_lt (lt_trans c.in_ok-expect.ensures.shorter (lt_trans c.in_ok-keys.ensures.shorter c.skip.ensures.shorter))
+keys-returns-clause-no_longer t c = no_longer_on _ _ _ (c.until.ensures.shorter _ (no_longer_on _ _ _ (shorter_on _ _ _ _ c.values-keys.ensures.shorter c.skip.ensures.shorter)))
 
 pub expression-returns-clause-shorter : goal.expression-returns-clause-shorter
 expression-returns-clause-shorter t c = shorter_on _ _ _ _ c.choice.ensures.shorter (lt_trans c.skip.ensures.shorter c.in_ok-condition.ensures.shorter)
@@ -271,7 +242,7 @@ pub alternatives-returns-clause-shorter : goal.alternatives-returns-clause-short
 alternatives-returns-clause-shorter t c = on_ok _ _ (lt_trans c.in_ok-no.ensures.shorter c.in_ok-yes.ensures.shorter)
 
 pub values-loop-alloc-smaller : goal.values-loop-alloc-smaller
-values-loop-alloc-smaller t c = lt_trans c.in_ok-expression-2.ensures.shorter c.skip.ensures.shorter
+values-loop-alloc-smaller t c = lt_trans (added_on _ _ _ _ c.expression-in-loop-alloc.ensures.shorter c.in_ok-values-2.ensures) c.skip.ensures.shorter
 
 pub values-returns-clause-shorter : goal.values-returns-clause-shorter
 values-returns-clause-shorter t c = c.loop-alloc.invariant.1
@@ -314,7 +285,7 @@ pub keyed-returns-clause-shorter : goal.keyed-returns-clause-shorter
 keyed-returns-clause-shorter t c = lt_of_le_of_lt c.in_ok-keys.ensures.no_longer c.in_ok-bytes.ensures.shorter
 
 pub value_until-returns-clause-shorter : goal.value_until-returns-clause-shorter
-value_until-returns-clause-shorter t c = lt_trans c.in_ok-expect.ensures.shorter c.in_ok-value.ensures.shorter
+value_until-returns-clause-shorter t c = c.until.ensures.shorter _ (no_longer_on _ _ _ c.expression-value.ensures.shorter)
 
 pub level-loop-class-smaller : goal.level-loop-class-smaller
 level-loop-class-smaller t c = lt_trans c.in_ok-left-2.ensures.shorter c.skip.ensures.shorter
@@ -323,4 +294,4 @@ pub level-returns-clause-shorter : goal.level-returns-clause-shorter
 level-returns-clause-shorter t c = c.loop-class.invariant.1
 
 pub values-loop-alloc-init : goal.values-loop-alloc-init
-values-loop-alloc-init t c = (rw (c.in_ok-expression.ensures.reads, c.in_ok-push.ensures.ok) refl, c.in_ok-expression.ensures.shorter)
+values-loop-alloc-init t c = (added_reads values_on _ _ _ _ _ c.expression.ensures.reads c.in_ok-values.ensures, added_on _ _ _ _ c.expression.ensures.shorter c.in_ok-values.ensures)

@@ -3,7 +3,7 @@ use Rattle.bt_core.specs.declared.limits.TheConstants.{PROBES}
 use Rattle.bt_grammar.specs.Counts.{probes_read}
 use Rattle.bt_grammar.specs.Reading.{Done}
 use Rattle.bt_grammar.specs.Tokens.{items}
-use Rattle.bt_parser.proofs.script.script.Given as goal
+use Rattle.bt_parser.proofs.script.probes.Given as goal
 
 -- the probes so far stand at the front
 abbrev pub invariant-loop-alloc : goal.invariant-loop-alloc
