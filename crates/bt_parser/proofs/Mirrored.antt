@@ -1,7 +1,7 @@
 -- Each part of an expression is read by its steps.
 use Rattle.std.proofs.Common.{◌≡◌, ℕ, ◌<◌, ◌≤◌, Bool, true, false, not, List, [], ◌∷◌, ◌++◌, Result, Ok, Err, refl, sym, ap, ◌∙◌, inl, inr, ◌⊎◌, Option, Some, None, if◌then◌else◌}
 use Rattle.std.specs.Prelude.{◌≢◌, IsErr, IsErrAnd, OnOk}
-use Rattle.std.proofs.Math.Nat.{le_of_lt, lt_trans}
+use Rattle.std.proofs.Math.Nat.{le_of_lt, lt_of_lt_of_le, lt_trans}
 use Rattle.std.proofs.lemmas.Bool.{false≢true}
 use Rattle.bt_core.specs.Want.{out_of_memory}
 use Rattle.bt_parser.specs.declared.fault.Fault.TheVariants.{OutOfMemory}
@@ -14,7 +14,7 @@ use Rattle.bt_ast.specs.declared.expr.ExprKind.TheVariants as exprs
 use Rattle.bt_ast.specs.declared.expr.MapRef.{MapRef}
 use Rattle.bt_ast.specs.declared.expr.Target.TheVariants as targets
 use Rattle.bt_grammar.specs.declared.class.Class.{Class}
-use Rattle.bt_grammar.specs.declared.class.Class.TheVariants.{NumberLiteral, TextLiteral, Arrow, Dot, Increment, Decrement, MapName, VarName, OpenParen, OpenBracket, CloseBracket, Comma, Question, Colon}
+use Rattle.bt_grammar.specs.declared.class.Class.TheVariants.{ArgsWord, BuiltinWord, NumberLiteral, TextLiteral, Arrow, Dot, Increment, Decrement, MapName, VarName, OpenParen, OpenBracket, CloseBracket, Comma, Question, Colon}
 use Rattle.bt_grammar.specs.declared.class.Tier.{Tier}
 use Rattle.bt_grammar.specs.declared.class.Tier.TheVariants.{Products, Sums, Shifts, Orders, Equalities, BitAnds, BitXors, BitOrs, AndThens, OrElses}
 use Rattle.bt_grammar.specs.Classes.{is, is_step, prefix_of, joins}
@@ -27,7 +27,7 @@ use Rattle.bt_grammar.specs.Trees.{second, snoc, pair, choose, map_ref, map_oper
 use Rattle.bt_parser.specs.declared.cursor.Named.{Named}
 use Rattle.bt_parser.specs.declared.fault.Fault.{Fault}
 use Rattle.bt_parser.specs.Contract.{Makes, Reads}
-use Rattle.bt_parser.specs.Mirror.{class_at, front_place, operator_at, when, prefix_at, named, operand_by, tighter, level_on, level_by, level_turn, choice_by, expression_by, unary_by, primary_by, keyed_by, map_by, assignable_by, dot_form, field_form, field_by, keys_by, values_on, values_behind, values_turn, plus_of, step_at, step_on, map_value, named_form, number_form, text_form, var_of, variable_form}
+use Rattle.bt_parser.specs.Mirror.{builtin_form, leaf, front_place, operator_at, when, prefix_at, named, operand_by, tighter, level_on, level_by, level_turn, choice_by, expression_by, unary_by, primary_by, keyed_by, map_by, assignable_by, dot_form, field_form, field_by, keys_by, values_on, values_behind, values_turn, plus_of, step_at, step_on, map_value, named_form, number_form, text_form, var_of, variable_form}
 use Rattle.bt_grammar.proofs.Enough.{reads_is}
 use Rattle.bt_grammar.proofs.Steps.{goes_on_stop, goes_on_more}
 use Rattle.bt_grammar.proofs.Checked.{fine_rule}
@@ -49,17 +49,6 @@ pub made_reads : {A : Type 0} (out : Out A) (a : A) (r : Result A Fault) (left :
 made_reads out a (Ok b) left m h = h ∙ ap (λ x. Done x (items left)) (sym m)
 made_reads out a (Err e) left m h = λ other. absurd (other m)
 
--- what is read is passed over
-pub passed : {A B C : Type 0} (o : Out A) (f : A → B) (b : B) (x : C) (r : List Item) → and_then o (λ a r'. Done (f a) r') ≡ Done b r → and_then o (λ a r'. Done x r') ≡ Done x r
-passed (Done a r') f b x r h = cc (h)
-passed (Refused r') f b x r h = cc (h)
-passed Unfinished f b x r h = cc (h)
-
-pub not_passed : {A B C : Type 0} (o : Out A) (f : A → B) (g : A → List Item → Out C) (r : List Item) → and_then o (λ a r'. Done (f a) r') ≡ Refused r → and_then o g ≡ Refused r
-not_passed (Done a r') f g r h = cc (h)
-not_passed (Refused r') f g r h = cc (h)
-not_passed Unfinished f g r h = cc (h)
-
 -- what was refused
 pub refused_reads : {A : Type 0} (out : Out A) (e : Fault) (r : Result A Fault) (left : List Token) → IsErrAnd r (λ d. d ≡ e) → (e ≢ OutOfMemory out_of_memory → out ≡ Refused (items left)) → Reads out r left
 refused_reads out e (Ok b) left m h = absurd m
@@ -78,6 +67,10 @@ on_err (Err d) P m = tt
 pub shorter_on : {A E : Type 0} (r : Result A E) (c b a : ℕ) → OnOk r (c < b) → b < a → OnOk r (c < a)
 shorter_on (Ok x) c b a h k = lt_trans h k
 shorter_on (Err d) c b a h k = tt
+
+pub shorter_behind : {A E : Type 0} (r : Result A E) (c b a : ℕ) → OnOk r (c < b) → b ≤ a → OnOk r (c < a)
+shorter_behind (Ok x) c b a h k = lt_of_lt_of_le h k
+shorter_behind (Err d) c b a h k = tt
 
 pub no_longer_on : {A E : Type 0} (r : Result A E) (c b : ℕ) → OnOk r (c < b) → OnOk r (c ≤ b)
 no_longer_on (Ok x) c b h = le_of_lt h
@@ -243,14 +236,14 @@ var_step t (u ∷ r) = var_step_at t u.class u.kind u.place r
 pub variable_is : (ts : List Item) → read reads variable_form ts ≡ and_then (read reads (named_form VarName) ts) (λ n r. step_on (var_value n) (step_at r) r)
 variable_is ts = and_then_same (read reads (Tok (is VarName)) ts) _ _ var_step ∙ sym (and_then_assoc (read reads (Tok (is VarName)) ts) (λ t r. Done (named t) r) var_on)
 
-primary_at : (c : Class) (k : TokenKind) (p : Place) (r : List Item) → read reads (rule Primary) (it c k p ∷ r) ≡ primary_by (Some c) (it c k p ∷ r)
+primary_at : (c : Class) (k : TokenKind) (p : Place) (r : List Item) → read reads (rule Primary) (it c k p ∷ r) ≡ primary_by (it c k p ∷ r)
 primary_at OpenParen k p r = simp and_then_assoc
 primary_at MapName k p r = and_then_same (reads Keyed (it MapName k p ∷ r)) _ _ map_step
 primary_at Increment k p r = refl
 primary_at Decrement k p r = refl
 primary_at _ k p r = refl
 
-pub primary_is : (ts : List Item) → reads Primary ts ≡ primary_by (class_at ts) ts
+pub primary_is : (ts : List Item) → reads Primary ts ≡ primary_by ts
 primary_is [] = reads_is Primary []
 primary_is (t ∷ r) = rw (reads_is Primary (t ∷ r)) (primary_at t.class t.kind t.place r)
 
@@ -281,3 +274,23 @@ dot_is (t ∷ r) = dot_at t.class t.kind t.place r
 
 pub field_is : (ts : List Item) → read reads field_form ts ≡ field_by ts
 field_is ts = simp and_then_assoc
+
+-- ---- operands without operands in them
+
+abbrev leaf_by : List Item → Out Expr
+leaf_by ts = if starts (ends NumberLiteral) ts then read reads number_form ts
+    else (if starts (ends TextLiteral) ts then read reads text_form ts
+    else (if starts (ends ArgsWord) ts then read reads field_form ts
+    else (if starts (ends VarName) ts then read reads variable_form ts else read reads builtin_form ts)))
+
+leaf_at : (c : Class) (k : TokenKind) (p : Place) (r : List Item) → read reads leaf (it c k p ∷ r) ≡ leaf_by (it c k p ∷ r)
+leaf_at NumberLiteral k p r = refl
+leaf_at TextLiteral k p r = refl
+leaf_at ArgsWord k p r = refl
+leaf_at VarName k p r = refl
+leaf_at (BuiltinWord b) k p r = refl
+leaf_at _ k p r = refl
+
+pub leaf_is : (ts : List Item) → read reads leaf ts ≡ leaf_by ts
+leaf_is [] = refl
+leaf_is (t ∷ r) = leaf_at t.class t.kind t.place r

@@ -1,5 +1,5 @@
 -- Each part of a statement is read by its steps.
-use Rattle.std.proofs.Common.{◌≡◌, Bool, true, false, List, [], ◌∷◌, refl, sym, subst, ◌∙◌, Some, None}
+use Rattle.std.proofs.Common.{◌≡◌, Bool, true, false, List, [], ◌∷◌, refl, sym, subst, ◌∙◌, None}
 use Rattle.bt_lexer.specs.declared.token.TokenKind.{TokenKind}
 use Rattle.bt_core.specs.declared.place.Place.{Place}
 use Rattle.bt_ast.specs.declared.expr.MapRef.{MapRef}
@@ -15,8 +15,11 @@ use Rattle.bt_grammar.specs.Form.{Item, Values, Int, Aggregation, Update, AfterM
 use Rattle.bt_grammar.specs.Reading.{Out, Done, Refused, Unfinished, and_then, read, reads, starts, goes_on}
 use Rattle.bt_grammar.specs.Rules.{rule, mark, ends, in_parens, value}
 use Rattle.bt_grammar.specs.Trees.{gather_map, set_map, on_item, delete_all, delete_keyed, delete_key, step_stmt}
-use Rattle.bt_parser.specs.Mirror.{class_at, named, named_form, step_at}
-use Rattle.bt_parser.specs.Statements.{given, int_by, parens_by, count_form, count_by, gather_form, gathering_at, gather_by, lhist_form, lhist_by, aggregation_by, begins_aggregation, update_at, update_by, set_map_by, after_map_by, after_var_by, map_form, whole_map_by, in_parens_map, map_in_parens_by, printf_by, limit_form, limit_by, limits_form, limits_by, print_by, delete_on, delete_by, call_at, call_by, simple_by, step_or_call}
+use Rattle.bt_parser.specs.Mirror.{named, named_form, step_at}
+use Rattle.bt_parser.specs.Contract.{behind}
+use Rattle.bt_parser.specs.declared.agg.Bounds.{Bounds}
+use Rattle.bt_parser.specs.Mirror.{◌>>=◌}
+use Rattle.bt_parser.specs.Statements.{bounds_by, given, int_by, parens_by, count_form, count_by, gather_form, gathering_at, gather_by, lhist_form, lhist_by, aggregation_by, begins_aggregation, update_at, update_by, set_map_by, after_map_by, after_var_by, map_form, whole_map_by, in_parens_map, map_in_parens_by, printf_by, limit_form, limit_by, limits_form, limits_by, print_by, delete_on, delete_by, call_at, call_by, simple_by, step_or_call}
 use Rattle.bt_grammar.proofs.Enough.{reads_is}
 use Rattle.bt_grammar.proofs.AllClasses.{is_same}
 use Rattle.bt_parser.proofs.Mirrored.{and_then_assoc, and_then_same, choice, choice_then, values_start, step_class, it}
@@ -49,15 +52,22 @@ pub gather_is : (ts : List Item) → read reads gather_form ts ≡ gather_by (ga
 gather_is [] = refl
 gather_is (t ∷ r) = gather_at t.class t.kind t.place r
 
+-- each bound with the mark behind it
+abbrev bounds_behind : List Item → Out Bounds
+bounds_behind ts = behind Comma (reads Int ts) >>= λ a r. behind Comma (reads Int r) >>= λ b r1. behind CloseParen (reads Int r1) >>= λ c r2. Done (record { min = a; max = b; step = c }) r2
+
+pub bounds_is : (ts : List Item) → bounds_by ts ≡ bounds_behind ts
+bounds_is ts = simp and_then_assoc
+
 pub lhist_is : (ts : List Item) → read reads lhist_form ts ≡ lhist_by ts
 lhist_is ts = simp and_then_assoc
 
-aggregation_at : (c : Class) (k : TokenKind) (p : Place) (r : List Item) → read reads (rule Aggregation) (it c k p ∷ r) ≡ aggregation_by (Some c) (it c k p ∷ r)
+aggregation_at : (c : Class) (k : TokenKind) (p : Place) (r : List Item) → read reads (rule Aggregation) (it c k p ∷ r) ≡ aggregation_by (it c k p ∷ r)
 aggregation_at CountWord k p r = refl
 aggregation_at LhistWord k p r = refl
 aggregation_at _ k p r = refl
 
-pub aggregation_is : (ts : List Item) → reads Aggregation ts ≡ aggregation_by (class_at ts) ts
+pub aggregation_is : (ts : List Item) → reads Aggregation ts ≡ aggregation_by ts
 aggregation_is [] = reads_is Aggregation []
 aggregation_is (t ∷ r) = rw (reads_is Aggregation (t ∷ r)) (aggregation_at t.class t.kind t.place r)
 

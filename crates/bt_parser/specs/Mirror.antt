@@ -185,12 +185,13 @@ paren_by place ts = read reads (Until value CloseParen) ts >>= λ x r. Done (exp
 abbrev pub step_by : Bool → Place → List Item → Out Expr
 step_by plus place ts = reads Assignable ts >>= λ t r. Done (expr (exprs.Step (step_of t plus place)) place) r
 
-abbrev pub primary_by : Option Class → List Item → Out Expr
-primary_by (Some OpenParen) ts = paren_by (front_place ts) (rest_of ts)
-primary_by (Some MapName) ts = reads Keyed ts >>= λ m r. step_on (map_value m) (step_at r) r
-primary_by (Some Increment) ts = step_by true (front_place ts) (rest_of ts)
-primary_by (Some Decrement) ts = step_by false (front_place ts) (rest_of ts)
-primary_by _ ts = read reads leaf ts
+abbrev pub step_or_leaf : Option Bool → List Item → Out Expr
+step_or_leaf (Some plus) ts = step_by plus (front_place ts) (rest_of ts)
+step_or_leaf None ts = read reads leaf ts
+
+abbrev pub primary_by : List Item → Out Expr
+primary_by ts = if starts (ends OpenParen) ts then paren_by (front_place ts) (rest_of ts)
+    else (if starts (ends MapName) ts then (reads Keyed ts >>= λ m r. step_on (map_value m) (step_at r) r) else step_or_leaf (step_at ts) ts)
 
 -- more values behind commas
 abbrev pub values_on : List Expr → List Item → Out (List Expr)

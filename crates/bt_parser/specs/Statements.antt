@@ -68,10 +68,9 @@ abbrev pub lhist_by : List Item → Out (AggCall × Place)
 lhist_by ts = read reads (mark LhistWord) ts >>= λ p r. read reads (mark OpenParen) r >>= λ _ r1. read reads (Until value Comma) r1 >>= λ x r2.
     bounds_by r2 >>= λ b r3. Done (aggs.Lhist x b.min b.max b.step, p) r3
 
-abbrev pub aggregation_by : Option Class → List Item → Out (AggCall × Place)
-aggregation_by (Some CountWord) ts = read reads count_form ts
-aggregation_by (Some LhistWord) ts = read reads lhist_form ts
-aggregation_by _ ts = read reads gather_form ts
+abbrev pub aggregation_by : List Item → Out (AggCall × Place)
+aggregation_by ts = if starts (ends CountWord) ts then read reads count_form ts
+    else (if starts (ends LhistWord) ts then read reads lhist_form ts else read reads gather_form ts)
 
 abbrev pub begins_aggregation : Class → Bool → Bool
 begins_aggregation c brace = fst_of Aggregation c

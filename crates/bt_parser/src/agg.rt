@@ -1,12 +1,13 @@
 // What is gathered in aggregation maps.
 ghost use Rattle.std.specs.Prelude.{◌≡◌, ◌<◌, OnOk, length};
-ghost use Rattle.bt_parser.specs.Contract.{Reads};
+ghost use Rattle.bt_parser.specs.Contract.{Reads, behind};
 ghost use Rattle.bt_grammar.specs.Form.{Aggregation, Int};
 ghost use Rattle.bt_grammar.specs.Reading.{read, reads};
 ghost use Rattle.bt_grammar.specs.Rules.{in_parens, value};
 ghost use Rattle.bt_parser.specs.Statements.{bounds_by, count_form, gather_form, lhist_form};
 ghost use Rattle.bt_grammar.specs.Tokens.{items};
 
+use crate::answer::until;
 use crate::cursor::Cursor;
 use crate::expr::value_until;
 use crate::fault::Fault;
@@ -68,17 +69,23 @@ struct Bounds {
     step: i64,
 }
 
+/// A number and, behind it, a token of the class.
+fn int_until(tokens: &mut Cursor<'_>, class: Class) -> Result<i64, Fault>
+    ensures reads { Reads (behind class (reads Int (items tokens.old))) result tokens.new }
+    ensures shorter { OnOk result (length tokens.new < length tokens.old) }
+{
+    let number = int(tokens);
+    until(tokens, number, class)
+}
+
 /// The bounds of a linear histogram between commas, and the closing parenthesis.
 fn read_bounds(tokens: &mut Cursor<'_>) -> Result<Bounds, Fault>
     ensures reads { Reads (bounds_by (items tokens.old)) result tokens.new }
     ensures shorter { OnOk result (length tokens.new < length tokens.old) }
 {
-    let min = int(tokens)?;
-    tokens.expect(Class::Comma)?;
-    let max = int(tokens)?;
-    tokens.expect(Class::Comma)?;
-    let step = int(tokens)?;
-    tokens.expect(Class::CloseParen)?;
+    let min = int_until(tokens, Class::Comma)?;
+    let max = int_until(tokens, Class::Comma)?;
+    let step = int_until(tokens, Class::CloseParen)?;
     Ok(Bounds { min, max, step })
 }
 
@@ -104,9 +111,11 @@ pub fn aggregation(alloc: Global, tokens: &mut Cursor<'_>) -> Result<(AggCall, P
     ensures reads { Reads (reads Aggregation (items tokens.old)) result tokens.new }
     ensures shorter { OnOk result (length tokens.new < length tokens.old) }
 {
-    match tokens.peek() {
-        Some(Class::CountWord) => count(tokens),
-        Some(Class::LhistWord) => lhist(alloc, tokens),
-        _ => gather(alloc, tokens),
+    if tokens.sees(Class::CountWord) {
+        return count(tokens);
     }
+    if tokens.sees(Class::LhistWord) {
+        return lhist(alloc, tokens);
+    }
+    gather(alloc, tokens)
 }

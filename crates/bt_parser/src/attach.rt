@@ -120,8 +120,12 @@ fn is_interval_word(word: &[u8]) -> bool
 pub fn attach_of(bytes: &[u8]) -> Option<Attach<'_>>
     ensures { (place : Place) → attach_point bytes.now place ≡ point_named result place }
 {
-    let (word, rest) = cut(bytes)?;
-    let (first, second) = cut(rest)?;
+    let Some((word, rest)) = cut(bytes) else {
+        return None;
+    };
+    let Some((first, second)) = cut(rest) else {
+        return None;
+    };
     if let Some((_, _)) = cut(second) {
         return None;
     }

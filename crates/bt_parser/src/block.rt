@@ -8,9 +8,9 @@ ghost use Rattle.bt_parser.specs.Statements.{branches_by, ended_by, if_by, other
 ghost use Rattle.bt_grammar.specs.Tokens.{items};
 
 use crate::agg::in_parens;
+use crate::answer::{added, until};
 use crate::cursor::Cursor;
 use crate::fault::Fault;
-use crate::answer::{added, until};
 use crate::simple::simple;
 use bt_ast::expr::Expr;
 use bt_ast::stmt::{Block, Stmt, StmtKind};
@@ -37,8 +37,7 @@ fn arm(alloc: Global, tokens: &mut Cursor<'_>) -> Result<(Expr, Block), Fault>
     ensures shorter { OnOk result (length tokens.new < length tokens.old) }
 {
     let condition = in_parens(alloc, tokens)?;
-    let block = block(alloc, tokens)?;
-    Ok((condition, block))
+    beside(condition, block(alloc, tokens))
 }
 
 /// The block behind an `else`, where one comes next.

@@ -14,6 +14,7 @@ use crate::expr::{value_until, values};
 use crate::fault::Fault;
 use bt_ast::expr::{Expr, MapRef};
 use bt_ast::stmt::{Stmt, StmtKind};
+use bt_core::beside::beside;
 use bt_core::items::Items;
 use bt_core::place::Place;
 use bt_grammar::class::Class;
@@ -71,7 +72,7 @@ fn printf(alloc: Global, tokens: &mut Cursor<'_>) -> Result<StmtKind, Fault>
 {
     tokens.expect(Class::OpenParen)?;
     let Named { bytes, place } = tokens.named(alloc, Class::TextLiteral)?;
-    let values = closed_values(alloc, tokens)?;
+    let (bytes, values) = beside(bytes, closed_values(alloc, tokens))?;
     Ok(StmtKind::Printf {
         format: bytes,
         format_place: place,
@@ -119,7 +120,7 @@ fn print(alloc: Global, tokens: &mut Cursor<'_>) -> Result<StmtKind, Fault>
 {
     tokens.expect(Class::OpenParen)?;
     let map = whole_map(alloc, tokens)?;
-    let (top, div) = closed_limits(tokens)?;
+    let (map, (top, div)) = beside(map, closed_limits(tokens))?;
     Ok(StmtKind::Print { map, top, div })
 }
 
@@ -146,10 +147,9 @@ fn closed_keys(alloc: Global, tokens: &mut Cursor<'_>) -> Result<Items<Expr>, Fa
     ensures reads { Reads (closed_keys_by (items tokens.old)) result tokens.new }
     ensures shorter { OnOk result (length tokens.new < length tokens.old) }
 {
-    let keys = values(alloc, tokens, Items::new(alloc))?;
-    tokens.expect(Class::CloseBracket)?;
-    tokens.expect(Class::CloseParen)?;
-    Ok(keys)
+    let keys = values(alloc, tokens, Items::new(alloc));
+    let keys = until(tokens, keys, Class::CloseBracket);
+    until(tokens, keys, Class::CloseParen)
 }
 
 /// The deletion of one key of a map of the name, which stands behind a comma.

@@ -9,10 +9,10 @@ ghost use Rattle.bt_grammar.specs.Rules.{value};
 ghost use Rattle.bt_grammar.specs.Tokens.{items};
 ghost use Rattle.bt_grammar.specs.Trees.{binary_kind, expr, place_of_expr};
 
+use crate::answer::{added, until};
 use crate::cursor::{Cursor, Named};
 use crate::fault::Fault;
 use crate::leaf::{leaf, map_value, step_value};
-use crate::answer::{added, until};
 use crate::tables::tighter;
 use bt_ast::expr::{Expr, ExprKind, MapRef, Target, VarRef};
 use bt_core::boxed::Boxed;
@@ -229,25 +229,19 @@ fn primary(alloc: Global, tokens: &mut Cursor<'_>) -> Result<Expr, Fault>
     ensures reads { Reads (reads Primary (items tokens.old)) result tokens.new }
     ensures shorter { OnOk result (length tokens.new < length tokens.old) }
 {
-    match tokens.peek() {
-        Some(Class::OpenParen) => {
-            let place = tokens.skip();
-            closed(alloc, tokens, place)
-        }
-        Some(Class::MapName) => {
-            let map = keyed(alloc, tokens)?;
-            Ok(map_value(tokens, map))
-        }
-        Some(Class::Increment) => {
-            let place = tokens.skip();
-            stepped(alloc, tokens, true, place)
-        }
-        Some(Class::Decrement) => {
-            let place = tokens.skip();
-            stepped(alloc, tokens, false, place)
-        }
-        _ => leaf(alloc, tokens),
+    if tokens.sees(Class::OpenParen) {
+        let place = tokens.skip();
+        return closed(alloc, tokens, place);
     }
+    if tokens.sees(Class::MapName) {
+        let map = keyed(alloc, tokens)?;
+        return Ok(map_value(tokens, map));
+    }
+    let Some(plus) = tokens.step() else {
+        return leaf(alloc, tokens);
+    };
+    let place = tokens.skip();
+    stepped(alloc, tokens, plus, place)
 }
 
 /// An expression in parentheses, behind the first of them, which stands at the place.

@@ -132,11 +132,17 @@ pub fn leaf(alloc: Global, tokens: &mut Cursor<'_>) -> Result<Expr, Fault>
     ensures reads { Reads (read reads leaf (items tokens.old)) result tokens.new }
     ensures shorter { OnOk result (length tokens.new < length tokens.old) }
 {
-    match tokens.peek() {
-        Some(Class::NumberLiteral) => number(tokens),
-        Some(Class::TextLiteral) => text(alloc, tokens),
-        Some(Class::ArgsWord) => field(alloc, tokens),
-        Some(Class::VarName) => variable(alloc, tokens),
-        _ => builtin(tokens),
+    if tokens.sees(Class::NumberLiteral) {
+        return number(tokens);
     }
+    if tokens.sees(Class::TextLiteral) {
+        return text(alloc, tokens);
+    }
+    if tokens.sees(Class::ArgsWord) {
+        return field(alloc, tokens);
+    }
+    if tokens.sees(Class::VarName) {
+        return variable(alloc, tokens);
+    }
+    builtin(tokens)
 }

@@ -6,15 +6,16 @@ ghost use Rattle.bt_parser.specs.Probes.{guarded_by, predicate_form};
 ghost use Rattle.bt_grammar.specs.Reading.{read, reads};
 ghost use Rattle.bt_grammar.specs.Tokens.{items};
 
+use crate::answer::{added, until};
 use crate::block::block;
 use crate::cursor::Cursor;
 use crate::expr::expression;
 use crate::fault::Fault;
-use crate::answer::added;
 use crate::point::place_of_points;
 use bt_ast::expr::Expr;
 use bt_ast::probe::{Point, Probe};
 use bt_ast::stmt::Block;
+use bt_core::beside::beside;
 use bt_core::items::Items;
 use bt_core::operator::BinOp;
 use bt_grammar::class::Class;
@@ -43,8 +44,8 @@ fn predicate(alloc: Global, tokens: &mut Cursor<'_>) -> Result<Option<Expr>, Fau
         return Ok(None);
     }
     tokens.skip();
-    let value = expression(alloc, tokens, true)?;
-    tokens.expect(Class::Operator(BinOp::Div))?;
+    let value = expression(alloc, tokens, true);
+    let value = until(tokens, value, Class::Operator(BinOp::Div))?;
     Ok(Some(value))
 }
 
@@ -54,8 +55,7 @@ fn guarded(alloc: Global, tokens: &mut Cursor<'_>) -> Result<(Option<Expr>, Bloc
     ensures shorter { OnOk result (length tokens.new < length tokens.old) }
 {
     let predicate = predicate(alloc, tokens)?;
-    let block = block(alloc, tokens)?;
-    Ok((predicate, block))
+    beside(predicate, block(alloc, tokens))
 }
 
 /// A probe: points, a predicate or none, and a block.

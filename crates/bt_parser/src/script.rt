@@ -5,9 +5,9 @@ ghost use Rattle.bt_parser.specs.Outcomes.{Ends, Gives, another};
 ghost use Rattle.bt_grammar.specs.Reading.{starts};
 ghost use Rattle.bt_grammar.specs.Tokens.{items};
 
+use crate::answer::added;
 use crate::cursor::Cursor;
 use crate::fault::Fault;
-use crate::answer::added;
 use crate::probe::probe;
 use crate::tables::is_point;
 use bt_ast::probe::Probe;

@@ -1,6 +1,6 @@
 use Rattle.std.proofs.Common.{[], refl, rules, sym}
 use Rattle.bt_ast.specs.declared.stmt.StmtKind.TheVariants as stmts
-use Rattle.bt_parser.proofs.Added.{added_on, added_reads, beside_on, beside_reads, refused_added}
+use Rattle.bt_parser.proofs.Added.{added_on, added_reads, beside_on, beside_reads, pair_on, pair_reads, refused_added}
 use Rattle.bt_parser.specs.Statements.{arms_on, body_on}
 use Rattle.bt_grammar.specs.Tokens.{items}
 use Rattle.bt_parser.proofs.Blocks.{arm_is, arms_turns, block_is, body_start, body_turns, control_is, second_left}
@@ -11,11 +11,8 @@ use Rattle.bt_parser.proofs.block.+block.Goals as goal
 pub arm-returns-in_err-condition-clause-reads : goal.arm-returns-in_err-condition-clause-reads
 arm-returns-in_err-condition-clause-reads t c = refused_reads _ _ _ _ c.from_residual.ensures.1 (λ other. rw (arm_is (items c.args.tokens.now), c.in_err-condition.ensures.reads other) refl)
 
-pub arm-returns-in_err-block-clause-reads : goal.arm-returns-in_err-block-clause-reads
-arm-returns-in_err-block-clause-reads t c = refused_reads _ _ _ _ c.from_residual-in_err-block.ensures.1 (λ other. rw (arm_is (items c.args.tokens.now), c.in_ok-condition.ensures.reads, c.in_err-block.ensures.reads other) refl)
-
 pub arm-returns-clause-reads : goal.arm-returns-clause-reads
-arm-returns-clause-reads t c = rw (arm_is (items c.args.tokens.now), c.in_ok-condition.ensures.reads, c.in_ok-block.ensures.reads) refl
+arm-returns-clause-reads t c = rw (arm_is (items c.args.tokens.now), c.in_ok-condition.ensures.reads) (pair_reads _ _ _ _ _ c.block.ensures.reads c.beside.ensures)
 
 pub block-returns-in_err-place-clause-reads : goal.block-returns-in_err-place-clause-reads
 block-returns-in_err-place-clause-reads t c = refused_reads _ _ _ _ c.from_residual.ensures.1 (λ other. rw (block_is (items c.args.tokens.now), c.in_err-place.ensures.reads other) refl)
@@ -38,7 +35,7 @@ body-returns-clause-reads t c = rw (← c.loop-alloc.invariant.0, body_turns c.l
 pub body-loop-alloc-preserved : goal.body-loop-alloc-preserved
 body-loop-alloc-preserved t c = (
   rw (← c.loop-alloc.invariant.0, body_turns c.loop-alloc.stmts (items c.loop-alloc.tokens), ← c.loop-alloc-test.ensures.class)
-    (added_reads body_on _ _ _ _ _ c.stmt.ensures.reads c.in_ok-stmts.ensures),
+      (added_reads body_on _ _ _ _ _ c.stmt.ensures.reads c.in_ok-stmts.ensures),
   le_of_lt (lt_of_lt_of_le (added_on _ _ _ _ c.stmt.ensures.shorter c.in_ok-stmts.ensures) c.loop-alloc.invariant.1),
 )
 
@@ -61,7 +58,7 @@ branches-loop-tokens-preserved t c = (
     ← c.skip-in-loop-tokens.ensures.items,
   ) (added_reads arms_on _ _ _ _ _ c.arm-in-loop-tokens.ensures.reads c.in_ok-arms-2.ensures),
   lt_trans (added_on _ _ _ _ c.arm-in-loop-tokens.ensures.shorter c.in_ok-arms-2.ensures)
-    (lt_trans c.skip-in-loop-tokens.ensures.shorter (lt_trans c.skip.ensures.shorter c.loop-tokens.invariant.1)),
+      (lt_trans c.skip-in-loop-tokens.ensures.shorter (lt_trans c.skip.ensures.shorter c.loop-tokens.invariant.1)),
 )
 
 pub control-returns-then-sees-clause-reads : goal.control-returns-then-sees-clause-reads
@@ -75,9 +72,6 @@ control-returns-clause-reads t c = rw (control_is (items c.args.tokens.now), ←
 
 pub arm-returns-in_err-condition-clause-shorter : goal.arm-returns-in_err-condition-clause-shorter
 arm-returns-in_err-condition-clause-shorter t c = on_err _ _ c.from_residual.ensures.0
-
-pub arm-returns-in_err-block-clause-shorter : goal.arm-returns-in_err-block-clause-shorter
-arm-returns-in_err-block-clause-shorter t c = on_err _ _ c.from_residual-in_err-block.ensures.0
 
 pub block-returns-in_err-place-clause-shorter : goal.block-returns-in_err-place-clause-shorter
 block-returns-in_err-place-clause-shorter t c = on_err _ _ c.from_residual.ensures.0
@@ -197,7 +191,7 @@ pub body-returns-clause-shorter : goal.body-returns-clause-shorter
 body-returns-clause-shorter t c = lt_of_lt_of_le c.skip.ensures.shorter c.loop-alloc.invariant.1
 
 pub arm-returns-clause-shorter : goal.arm-returns-clause-shorter
-arm-returns-clause-shorter t c = lt_trans c.in_ok-block.ensures.shorter c.in_ok-condition.ensures.shorter
+arm-returns-clause-shorter t c = shorter_on _ _ _ _ (pair_on _ _ _ _ c.block.ensures.shorter c.beside.ensures) c.in_ok-condition.ensures.shorter
 
 pub otherwise-returns-clause-no_longer : goal.otherwise-returns-clause-no_longer
 otherwise-returns-clause-no_longer t c = le_of_lt (lt_trans c.in_ok-block.ensures.shorter c.skip.ensures.shorter)

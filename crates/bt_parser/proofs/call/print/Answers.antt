@@ -1,4 +1,6 @@
-use Rattle.std.proofs.Common.{refl, rules}
+use Rattle.bt_ast.specs.declared.stmt.StmtKind.TheVariants as stmts
+use Rattle.bt_parser.proofs.Added.{beside_on, beside_reads, refused_beside}
+use Rattle.std.proofs.Common.{refl}
 use Rattle.bt_grammar.specs.Tokens.{items}
 use Rattle.bt_parser.proofs.Mirrored.{on_err, refused_reads}
 use Rattle.bt_parser.proofs.Stated.{print_is}
@@ -17,14 +19,14 @@ returns-in_err-map-clause-reads c = refused_reads _ _ _ _ c.from_residual-in_err
 pub returns-in_err-map-clause-shorter : goal.returns-in_err-map-clause-shorter
 returns-in_err-map-clause-shorter c = on_err _ _ c.from_residual-in_err-map.ensures.0
 
-pub returns-in_err-top-clause-reads : goal.returns-in_err-top-clause-reads
-returns-in_err-top-clause-reads c = refused_reads _ _ _ _ c.from_residual-in_err-top.ensures.1 (λ other. rw (print_is (items c.args.tokens.now), c.in_ok-expect.ensures.reads, c.in_ok-map.ensures.reads, c.in_err-top.ensures.reads other) refl)
+pub returns-in_err-map-2-clause-reads : goal.returns-in_err-map-2-clause-reads
+returns-in_err-map-2-clause-reads c = refused_reads _ _ _ _ c.from_residual-in_err-map-2.ensures.1 (λ other. rw (print_is (items c.args.tokens.now), c.in_ok-expect.ensures.reads, c.in_ok-map.ensures.reads, refused_beside _ _ _ _ c.closed_limits.ensures.reads c.in_err-map-2.ensures other) refl)
 
-pub returns-in_err-top-clause-shorter : goal.returns-in_err-top-clause-shorter
-returns-in_err-top-clause-shorter c = on_err _ _ c.from_residual-in_err-top.ensures.0
+pub returns-in_err-map-2-clause-shorter : goal.returns-in_err-map-2-clause-shorter
+returns-in_err-map-2-clause-shorter c = on_err _ _ c.from_residual-in_err-map-2.ensures.0
 
 pub returns-clause-reads : goal.returns-clause-reads
-returns-clause-reads c = rw (print_is (items c.args.tokens.now), c.in_ok-expect.ensures.reads, c.in_ok-map.ensures.reads, c.in_ok-top.ensures.reads) (search rules)
+returns-clause-reads c = rw (print_is (items c.args.tokens.now), c.in_ok-expect.ensures.reads, c.in_ok-map.ensures.reads) (beside_reads (λ map limits. stmts.Print map limits.0 limits.1) _ _ _ _ _ _ c.closed_limits.ensures.reads c.in_ok-map-2.ensures)
 
 pub returns-clause-shorter : goal.returns-clause-shorter
-returns-clause-shorter c = lt_trans c.in_ok-top.ensures.shorter (lt_trans c.in_ok-map.ensures.shorter c.in_ok-expect.ensures.shorter)
+returns-clause-shorter c = lt_trans (beside_on _ _ _ c.closed_limits.ensures.shorter c.in_ok-map-2.ensures.1) (lt_trans c.in_ok-map.ensures.shorter c.in_ok-expect.ensures.shorter)

@@ -1,11 +1,10 @@
-use Rattle.std.proofs.Common.{refl, rules, arith}
-use Rattle.std.proofs.lemmas.Grind.{common_steps}
+use Rattle.std.proofs.Common.{refl}
 use Rattle.bt_grammar.specs.Tokens.{items}
 use Rattle.bt_parser.proofs.Added.{added_on, added_reads, refused_added, until_is}
 use Rattle.bt_grammar.specs.Rules.{value}
 use Rattle.bt_parser.specs.Mirror.{values_on}
 use Rattle.bt_parser.proofs.Mirrored.{assignable_is, expression_is, keyed_is, level_is, level_turns, made_reads, no_longer_on, primary_is, refused_reads, on_ok, on_err, unary_is, values_turns, shorter_on}
-use Rattle.std.proofs.Math.Nat.{lt_trans, le_of_lt, lt_of_le_of_lt}
+use Rattle.std.proofs.Math.Nat.{lt_trans, lt_of_le_of_lt}
 use Rattle.bt_parser.proofs.expr.+expr.Goals as goal
 
 pub alternatives-returns-clause-reads : goal.alternatives-returns-clause-reads
@@ -74,23 +73,20 @@ level-loop-class-preserved t c = (
   lt_trans c.in_ok-left-2.ensures.shorter (lt_trans c.skip.ensures.shorter c.loop-class.invariant.1),
 )
 
-pub primary-returns-in_err-map-in-Some-MapName-clause-reads : goal.primary-returns-in_err-map-in-Some-MapName-clause-reads
-primary-returns-in_err-map-in-Some-MapName-clause-reads t c = refused_reads _ _ _ _ c.from_residual.ensures.1 (λ other. rw (primary_is (items c.args.tokens.now), ← c.in-Some-MapName.ensures.class, c.in-Some-MapName.field-0-is, c.in_err-map-in-Some-MapName.ensures.reads other) refl)
+pub primary-returns-in_err-map-clause-reads : goal.primary-returns-in_err-map-clause-reads
+primary-returns-in_err-map-clause-reads t c = refused_reads _ _ _ _ c.from_residual.ensures.1 (λ other. rw (primary_is (items c.args.tokens.now), ← c.if-sees.ensures.class, ← c.if-sees-2.ensures.class, c.in_err-map.ensures.reads other) refl)
 
-pub primary-returns-in_ok-map-in-Some-MapName-clause-reads : goal.primary-returns-in_ok-map-in-Some-MapName-clause-reads
-primary-returns-in_ok-map-in-Some-MapName-clause-reads t c = rw (primary_is (items c.args.tokens.now), ← c.in-Some-MapName.ensures.class, c.in-Some-MapName.field-0-is, c.in_ok-map-in-Some-MapName.ensures.reads) c.map_value.ensures.reads
+pub primary-returns-then-sees-2-clause-reads : goal.primary-returns-then-sees-2-clause-reads
+primary-returns-then-sees-2-clause-reads t c = rw (primary_is (items c.args.tokens.now), ← c.if-sees.ensures.class, ← c.if-sees-2.ensures.class, c.in_ok-map.ensures.reads) c.map_value.ensures.reads
 
-pub primary-returns-in-Some-OpenParen-clause-reads : goal.primary-returns-in-Some-OpenParen-clause-reads
-primary-returns-in-Some-OpenParen-clause-reads t c = rw (primary_is (items c.args.tokens.now), ← c.in-Some-OpenParen.ensures.class, c.in-Some-OpenParen.field-0-is, ← c.skip-place.ensures.items, ← c.skip-place.ensures.place) c.closed.ensures.reads
+pub primary-returns-then-sees-clause-reads : goal.primary-returns-then-sees-clause-reads
+primary-returns-then-sees-clause-reads t c = rw (primary_is (items c.args.tokens.now), ← c.if-sees.ensures.class, ← c.skip-place.ensures.items, ← c.skip-place.ensures.place) c.closed.ensures.reads
 
-pub primary-returns-in-Some-Increment-clause-reads : goal.primary-returns-in-Some-Increment-clause-reads
-primary-returns-in-Some-Increment-clause-reads t c = rw (primary_is (items c.args.tokens.now), ← c.in-Some-Increment.ensures.class, c.in-Some-Increment.field-0-is, ← c.skip-place-in-Some-Increment.ensures.items, ← c.skip-place-in-Some-Increment.ensures.place) c.stepped.ensures.reads
-
-pub primary-returns-in-Some-Decrement-clause-reads : goal.primary-returns-in-Some-Decrement-clause-reads
-primary-returns-in-Some-Decrement-clause-reads t c = rw (primary_is (items c.args.tokens.now), ← c.in-Some-Decrement.ensures.class, c.in-Some-Decrement.field-0-is, ← c.skip-place-in-Some-Decrement.ensures.items, ← c.skip-place-in-Some-Decrement.ensures.place) c.stepped-in-Some-Decrement.ensures.reads
+pub primary-returns-clause-reads : goal.primary-returns-clause-reads
+primary-returns-clause-reads t c = rw (primary_is (items c.args.tokens.now), ← c.if-sees.ensures.class, ← c.if-sees-2.ensures.class, ← c.in-Some.ensures.class, ← c.skip-place-2.ensures.items, ← c.skip-place-2.ensures.place) c.stepped.ensures.reads
 
 pub primary-returns-in_default-clause-reads : goal.primary-returns-in_default-clause-reads
-primary-returns-in_default-clause-reads t c = rw (primary_is (items c.args.tokens.now)) (first_of (search rules, grind (arith, common_steps)))
+primary-returns-in_default-clause-reads t c = rw (primary_is (items c.args.tokens.now), ← c.if-sees.ensures.class, ← c.if-sees-2.ensures.class, ← c.in_default.ensures.class) c.leaf.ensures.reads
 
 pub unary-returns-in_default-clause-reads : goal.unary-returns-in_default-clause-reads
 unary-returns-in_default-clause-reads t c = rw (unary_is (items c.args.tokens.now), ← c.in_default.ensures.class) c.primary.ensures.reads
@@ -178,8 +174,8 @@ level-returns-in_err-left-clause-shorter t c = on_err _ _ c.from_residual.ensure
 pub level-returns-in_err-left-2-clause-shorter : goal.level-returns-in_err-left-2-clause-shorter
 level-returns-in_err-left-2-clause-shorter t c = on_err _ _ c.from_residual-in_err-left-2.ensures.0
 
-pub primary-returns-in_err-map-in-Some-MapName-clause-shorter : goal.primary-returns-in_err-map-in-Some-MapName-clause-shorter
-primary-returns-in_err-map-in-Some-MapName-clause-shorter t c = on_err _ _ c.from_residual.ensures.0
+pub primary-returns-in_err-map-clause-shorter : goal.primary-returns-in_err-map-clause-shorter
+primary-returns-in_err-map-clause-shorter t c = on_err _ _ c.from_residual.ensures.0
 
 pub stepped-returns-in_err-target-clause-reads : goal.stepped-returns-in_err-target-clause-reads
 stepped-returns-in_err-target-clause-reads t c = refused_reads _ _ _ _ c.from_residual.ensures.1 (λ other. rw (c.in_err-target.ensures.reads other) refl)
@@ -260,26 +256,19 @@ pub assignable-returns-then-sees-clause-shorter : goal.assignable-returns-then-s
 assignable-returns-then-sees-clause-shorter t c = c.in_ok-keyed.ensures.shorter
 
 pub primary-skip-place-requires : goal.primary-skip-place-requires
-primary-skip-place-requires t c = c.in-Some-OpenParen.ensures.some refl
+primary-skip-place-requires t c = c.if-sees.ensures.some refl
 
-pub primary-skip-place-requires-in-Some-Increment : goal.primary-skip-place-requires-in-Some-Increment
-primary-skip-place-requires-in-Some-Increment t c = c.in-Some-Increment.ensures.some refl
+pub primary-skip-place-requires-2 : goal.primary-skip-place-requires-2
+primary-skip-place-requires-2 t c = c.in-Some.ensures.some refl
 
-pub primary-skip-place-requires-in-Some-Decrement : goal.primary-skip-place-requires-in-Some-Decrement
-primary-skip-place-requires-in-Some-Decrement t c = c.in-Some-Decrement.ensures.some refl
+pub primary-returns-then-sees-clause-shorter : goal.primary-returns-then-sees-clause-shorter
+primary-returns-then-sees-clause-shorter t c = shorter_on _ _ _ _ c.closed.ensures.shorter c.skip-place.ensures.shorter
 
-pub primary-returns-in-Some-OpenParen-clause-shorter : goal.primary-returns-in-Some-OpenParen-clause-shorter
-primary-returns-in-Some-OpenParen-clause-shorter t c = shorter_on _ _ _ _ c.closed.ensures.shorter c.skip-place.ensures.shorter
+pub primary-returns-clause-shorter : goal.primary-returns-clause-shorter
+primary-returns-clause-shorter t c = shorter_on _ _ _ _ c.stepped.ensures.shorter c.skip-place-2.ensures.shorter
 
-pub primary-returns-in-Some-Increment-clause-shorter : goal.primary-returns-in-Some-Increment-clause-shorter
-primary-returns-in-Some-Increment-clause-shorter t c = shorter_on _ _ _ _ c.stepped.ensures.shorter c.skip-place-in-Some-Increment.ensures.shorter
-
-pub primary-returns-in-Some-Decrement-clause-shorter : goal.primary-returns-in-Some-Decrement-clause-shorter
-primary-returns-in-Some-Decrement-clause-shorter t c =
-    shorter_on _ _ _ _ c.stepped-in-Some-Decrement.ensures.shorter c.skip-place-in-Some-Decrement.ensures.shorter
-
-pub primary-returns-in_ok-map-in-Some-MapName-clause-shorter : goal.primary-returns-in_ok-map-in-Some-MapName-clause-shorter
-primary-returns-in_ok-map-in-Some-MapName-clause-shorter t c = lt_of_le_of_lt c.map_value.ensures.no_longer c.in_ok-map-in-Some-MapName.ensures.shorter
+pub primary-returns-then-sees-2-clause-shorter : goal.primary-returns-then-sees-2-clause-shorter
+primary-returns-then-sees-2-clause-shorter t c = lt_of_le_of_lt c.map_value.ensures.no_longer c.in_ok-map.ensures.shorter
 
 pub keyed-returns-clause-shorter : goal.keyed-returns-clause-shorter
 keyed-returns-clause-shorter t c = lt_of_le_of_lt c.in_ok-keys.ensures.no_longer c.in_ok-bytes.ensures.shorter

@@ -39,7 +39,7 @@ loop-alloc-preserved c = record {
     ← c.skip.ensures.items,
   ) (added_reads points_on _ _ _ _ _ c.point-in-loop-alloc.ensures.reads c.in_ok-points-2.ensures);
   shorter =
-    lt_trans (added_on _ _ _ _ c.point-in-loop-alloc.ensures.shorter c.in_ok-points-2.ensures) (lt_trans c.skip.ensures.shorter c.loop-alloc.invariant.shorter);
+      lt_trans (added_on _ _ _ _ c.point-in-loop-alloc.ensures.shorter c.in_ok-points-2.ensures) (lt_trans c.skip.ensures.shorter c.loop-alloc.invariant.shorter);
   some = some_added _ _ _ c.in_ok-points-2.ensures;
 }
 

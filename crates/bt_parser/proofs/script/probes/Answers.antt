@@ -21,7 +21,7 @@ returns-in_err-probes-clause-outcome c =
     let h : another c.loop-alloc.probes (items c.loop-alloc.tokens) ≡ true = grind (arith, common_steps) in
     ends_refused _ _ _ _ c.from_residual.ensures.1
     (λ other. refused_next c.args.tokens.now c.loop-alloc.tokens c.probe.new.tokens c.loop-alloc.probes c.loop-alloc.invariant.read c.loop-alloc.invariant.few more h
-      (refused_added _ _ _ _ c.probe.ensures.reads c.in_err-probes.ensures other))
+    (refused_added _ _ _ _ c.probe.ensures.reads c.in_err-probes.ensures other))
 
 pub returns-in_err-probes-clause-no_longer : goal.returns-in_err-probes-clause-no_longer
 returns-in_err-probes-clause-no_longer c =
