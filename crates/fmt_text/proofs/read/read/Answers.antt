@@ -1,4 +1,5 @@
-use Rattle.std.proofs.Common.{◌≡◌, ◌≢◌, ◌==◌, ℕ, Bool, true, false, Option, Some, None, option_map, List, [], ◌∷◌, length, refl, sym, ◌∙◌, arith}
+use Rattle.std.proofs.Common.{◌≡◌, ◌≢◌, ◌≤◌, ◌++◌, ◌==◌, ℕ, Bool, true, false, Option, Some, None, option_map, List, [], ◌∷◌, length, refl, sym, ap, ◌∙◌, arith}
+use Rattle.std.proofs.lemmas.List.{length-append}
 use Rattle.std.proofs.lemmas.Bool.{eqb-true}
 use Rattle.fmt_text.proofs.Uniqueness.{front_shorter, reached_none, reached_more, reached_end, reached_bad}
 use Rattle.fmt_text.proofs.read.read.Goals as goal
@@ -26,6 +27,9 @@ no_bytes : (bytes : List ℕ) (empty : Bool) → empty ≡ (length bytes == 0) �
 no_bytes [] empty is known = refl
 no_bytes (b ∷ bs) empty is known = let e = eqb-true (length (b ∷ bs)) 0 (sym is ∙ known) in absurd (omega (arith, e))
 
+rest_short : (text front rest : List ℕ) → text ≡ front ++ rest → length rest ≤ length text
+rest_short text front rest e = omega (arith, ap length e, length-append front rest)
+
 pub returns-then-not-is_empty : goal.returns-then-not-is_empty
 returns-then-not-is_empty c =
     reached_bad c.args.text.now c.loop-front.rest.now c.loop-front.pieces.done c.loop-front.pieces.literal _ c.loop-front.invariant
@@ -36,3 +40,8 @@ pub returns : goal.returns
 returns c =
     reached_end c.args.text.now c.loop-front.rest.now c.loop-front.pieces.done c.loop-front.pieces.literal _ c.loop-front.invariant
     (no_bytes c.loop-front.rest.now c.is_empty.result c.is_empty.ensures c.if-not-is_empty.false) c.in_ok-close.ensures
+
+pub overflow_sub-result : goal.overflow_sub-result
+overflow_sub-result c =
+    let reached = c.loop-front.invariant in
+    rest_short _ _ _ reached.spelled
