@@ -23,10 +23,10 @@ fn letter_shape(letter: u8) -> Shape
 fn add_shape(shapes: &mut Items<Shape>, piece: &Piece) -> Result<(), Memory>
     ensures { OnOk result (shapes.new ≡ shapes.old ++ piece_shapes piece.now) }
 {
-    if let Piece::Conversion { letter, .. } = piece {
-        shapes.push(letter_shape(*letter))?;
+    match piece {
+        Piece::Literal(_) => Ok(()),
+        Piece::Conversion { letter, .. } => shapes.push(letter_shape(*letter)),
     }
-    Ok(())
 }
 
 /// The types of the arguments that a format with these pieces wants, one for each conversion in their

@@ -58,17 +58,14 @@ impl Pieces {
             going_on self.new.done self.new.literal pieces ≡ going_on self.old.done self.old.literal (joined (front_piece front) pieces)) }
     {
         match front {
-            Front::Byte(byte) => {
-                self.literal.push(byte)?;
-            }
+            Front::Byte(byte) => self.literal.push(byte),
             Front::Conversion(conversion) => {
                 let literal = mem::replace(&mut self.literal, Items::new(alloc));
                 if !literal.is_empty() {
                     self.done.push(Piece::Literal(literal))?;
                 }
-                self.done.push(conversion.piece())?;
+                self.done.push(conversion.piece())
             }
         }
-        Ok(())
     }
 }
