@@ -1,5 +1,7 @@
 -- One turn of the lexer's loop.
-use Rattle.std.proofs.Common.{◌≡◌, ◌<◌, ◌≤◌, ℕ, zero, suc, List, [], ◌∷◌, ◌++◌, take, drop, length, Result, Ok, Err, refl, sym, ap, append_assoc, arith}
+use Rattle.std.proofs.Common.{◌≡◌, ◌<◌, ◌≤◌, ℕ, zero, suc, true, ◌==◌, List, [], ◌∷◌, ◌++◌, take, drop, length, Result, Ok, Err, refl, sym, ap, ◌∙◌, append_assoc, arith}
+use Rattle.std.proofs.lemmas.Bool.{eqb-true}
+use Rattle.std.proofs.lemmas.List.{append-nil}
 use Rattle.std.proofs.Math.Numerals.{sub-one}
 use Rattle.bt_lexer.specs.declared.token.Token.{Token}
 use Rattle.bt_lexer.specs.declared.position.Position.{Position}
@@ -29,3 +31,8 @@ prepend_more ts us (Err e) = refl
 pub refused : (p : Position) (bs : List ℕ) (e : LexError) → piece_at p.offset bs ≡ Err e → 0 < length bs → lexed_from 0 p bs ≡ Err e
 refused p [] e q pos = absurd (omega arith)
 refused p (b ∷ bs) e q pos = rw q refl
+
+-- where nothing is left, what was read is all
+pub all_read : (ts us : List Token) (p : Position) (rest : List ℕ) → true ≡ (length rest == 0) → us ≡ ts → prepend ts (lexed_from 0 p rest) ≡ Ok us
+all_read ts us p [] h e = ap Ok (append-nil ts ∙ sym e)
+all_read ts us p (b ∷ bs) h e = let q = eqb-true (length (b ∷ bs)) 0 (sym h) in absurd (omega (arith, q))

@@ -2,7 +2,7 @@ use Rattle.std.proofs.Common.{arith, ◌≡◌, ◌∙◌, ◌<◌, ap, length, 
 use Rattle.std.proofs.lemmas.Grind.{common_steps}
 use Rattle.std.proofs.lemmas.Result.{err_from_is_err_and}
 use Rattle.bt_lexer.specs.Scan.{prepend, tokens_at}
-use Rattle.bt_lexer.proofs.Turns.{turn, refused, prepend_more}
+use Rattle.bt_lexer.proofs.Turns.{turn, refused, prepend_more, all_read}
 use Rattle.bt_lexer.proofs.lexer.tokens_from.Goals as goal
 
 pub returns-in_err-kind : goal.returns-in_err-kind
@@ -21,3 +21,7 @@ loop-rest-preserved c =
       position = grind (arith, common_steps);
       room = grind (arith, common_steps);
     }
+
+pub returns : goal.returns
+returns c =
+    sym c.loop-rest.invariant.tokens ∙ all_read c.loop-rest.tokens.items c.of.result c.loop-rest.position c.loop-rest.rest.now c.loop-rest-test.ensures c.of.ensures
