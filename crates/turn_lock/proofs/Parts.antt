@@ -1,5 +1,5 @@
 -- A function changed at one number, and how many callers wait.
-use Rattle.std.proofs.Common.{◌≡◌, ◌≢◌, ◌⊎◌, ℕ, zero, suc, ◌+◌, ◌<◌, ◌≤◌, Bool, cond, eqb, List, [], ◌∷◌, ◌++◌, length, sym, refl, ap, ◌∙◌, inl, inr, ⊎_elim, arith, eq-eqb, ne_eqb}
+use Rattle.std.proofs.Common.{MatchBool, subst, ◌≡◌, ◌≢◌, ◌⊎◌, ℕ, zero, suc, ◌+◌, ◌<◌, ◌≤◌, Bool, cond, eqb, List, [], ◌∷◌, ◌++◌, length, sym, refl, ap, ◌∙◌, inl, inr, ⊎_elim, arith, eq-eqb, ne_eqb}
 use mathlib.Core.Logic.{dite}
 use mathlib.Core.Option.{some, some-injective, some-ne-none}
 use native.Mathlib.Decide.{ℕ_discrete}
@@ -45,3 +45,8 @@ waiting_put (suc n) f c p lt = dite (ℕ_discrete n c)
     ∙ ap (λ (q : Part). busy q.stage) (put_here f c p) in
     let d : busy (f n).stage ≡ busy (f c).stage = ap (λ (k : ℕ). busy (f k).stage) e in omega arith)
     (λ ne. let a = waiting_put n f c p (omega arith) in let b = ap (λ (q : Part). busy q.stage) (put_else f c p n ne) in omega arith)
+
+-- what holds of two numbers that are equal, and of two that are not, by their test
+pub by_test : (a b : ℕ) (P Q : Type 0) → (a ≡ b → P) → (a ≢ b → Q) → MatchBool (eqb a b) P Q
+by_test a b P Q same other = dite (ℕ_discrete a b) (λ e. subst (λ (t : Bool). MatchBool t P Q) (sym (eq-eqb a b e)) (same e))
+    (λ ne. subst (λ (t : Bool). MatchBool t P Q) (sym (ne_eqb a b ne)) (other ne))

@@ -322,7 +322,7 @@ impl<O: SeqObject> TurnLock<O> {
         let mut turns = Vec::with_capacity(alloc, callers as usize)?;
         for caller in 1..callers {
             let seat = self.table.shared.split_seat::<Deal>(&mut first);
-            turns.push(Turn::of(caller, seat))?;
+            turns.push_reserved(Turn::of(caller, seat));
         }
         turns.insert(0, Turn::of(0, first))?;
         Ok(turns)
