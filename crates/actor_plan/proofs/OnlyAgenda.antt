@@ -60,6 +60,15 @@ placed [] i lt = absurd (omega arith)
 placed (x ∷ xs) zero lt = (x, refl)
 placed (x ∷ xs) (suc i) lt = placed xs i (omega arith)
 
+nil_cons : (n : ℕ) (ns : List ℕ) → [] ≡ n ∷ ns → ⊥
+nil_cons n ns e = cc
+
+head_of : (m n : ℕ) (ms ns : List ℕ) → m ∷ ms ≡ n ∷ ns → m ≡ n
+head_of m n ms ns e = cc
+
+tail_of : (m n : ℕ) (ms ns : List ℕ) → m ∷ ms ≡ n ∷ ns → ms ≡ ns
+tail_of m n ms ns e = cc
+
 -- each number is below a bound
 abbrev pub AllBelow : ℕ → List ℕ → Type 0
 AllBelow n ns = AllByRecursion (λ k. k < n) ns
@@ -104,74 +113,74 @@ module _ (ticks : List Tick) (entries : List Entry) where
       → filter_map tick_place one ≡ tick_places → filter_map entry_place one ≡ entry_places → filter_map tick_place other ≡ tick_places → filter_map entry_place other ≡ entry_places
       → Kinds one → Kinds other → Stands one → Stands other → one ≡ other
   same [] [] tp ep tb eb a b c d ki kj h g = refl
-  same [] (item.Tick q ∷ ys) tp ep tb eb a b c d ki kj h g = absurd cc
-  same [] (item.Event q ∷ ys) tp ep tb eb a b c d ki kj h g = absurd cc
-  same [] (item.Lost q ∷ ys) tp ep tb eb a b c d ki kj h g = absurd cc
-  same (item.Tick p ∷ xs) [] tp ep tb eb a b c d ki kj h g = absurd cc
-  same (item.Event p ∷ xs) [] tp ep tb eb a b c d ki kj h g = absurd cc
-  same (item.Lost p ∷ xs) [] tp ep tb eb a b c d ki kj h g = absurd cc
-  same (item.Tick p ∷ xs) (item.Tick q ∷ ys) [] ep tb eb a b c d ki kj h g = absurd cc
+  same [] (item.Tick q ∷ ys) tp ep tb eb a b c d ki kj h g = absurd (nil_cons q (filter_map tick_place ys) (a ∙ sym c))
+  same [] (item.Event q ∷ ys) tp ep tb eb a b c d ki kj h g = absurd (nil_cons q (filter_map entry_place ys) (b ∙ sym d))
+  same [] (item.Lost q ∷ ys) tp ep tb eb a b c d ki kj h g = absurd (nil_cons q (filter_map entry_place ys) (b ∙ sym d))
+  same (item.Tick p ∷ xs) [] tp ep tb eb a b c d ki kj h g = absurd (nil_cons p (filter_map tick_place xs) (c ∙ sym a))
+  same (item.Event p ∷ xs) [] tp ep tb eb a b c d ki kj h g = absurd (nil_cons p (filter_map entry_place xs) (d ∙ sym b))
+  same (item.Lost p ∷ xs) [] tp ep tb eb a b c d ki kj h g = absurd (nil_cons p (filter_map entry_place xs) (d ∙ sym b))
+  same (item.Tick p ∷ xs) (item.Tick q ∷ ys) [] ep tb eb a b c d ki kj h g = absurd (nil_cons p (filter_map tick_place xs) (sym a))
   same (item.Tick p ∷ xs) (item.Tick q ∷ ys) (n ∷ ns) ep tb eb a b c d ki kj h g =
-      let head : p ≡ q = cc in
-      let one_rest : filter_map tick_place xs ≡ ns = cc in
-      let other_rest : filter_map tick_place ys ≡ ns = cc in
+      let head : p ≡ q = head_of p q (filter_map tick_place xs) (filter_map tick_place ys) (a ∙ sym c) in
+      let one_rest = tail_of p n (filter_map tick_place xs) ns a in
+      let other_rest = tail_of q n (filter_map tick_place ys) ns c in
       let rest = same xs ys ns ep tb.1 eb one_rest b other_rest d ki.1 kj.1 (behind_first (item.Tick p) xs h) (behind_first (item.Tick q) ys g) in
       (λ i. item.Tick (head i) ∷ rest i)
-  same (item.Event p ∷ xs) (item.Event q ∷ ys) tp [] tb eb a b c d ki kj h g = absurd cc
+  same (item.Event p ∷ xs) (item.Event q ∷ ys) tp [] tb eb a b c d ki kj h g = absurd (nil_cons p (filter_map entry_place xs) (sym b))
   same (item.Event p ∷ xs) (item.Event q ∷ ys) tp (n ∷ ns) tb eb a b c d ki kj h g =
-      let pn : n ≡ p = cc in
-      let qn : n ≡ q = cc in
-      let one_rest : filter_map entry_place xs ≡ ns = cc in
-      let other_rest : filter_map entry_place ys ≡ ns = cc in
+      let pn = sym (head_of p n (filter_map entry_place xs) ns b) in
+      let qn = sym (head_of q n (filter_map entry_place ys) ns d) in
+      let one_rest = tail_of p n (filter_map entry_place xs) ns b in
+      let other_rest = tail_of q n (filter_map entry_place ys) ns d in
       let head = head_is (item.Event p) (item.Event q) p q n refl refl pn qn eb.0 ki.0 kj.0 in
       let rest = same xs ys tp ns tb eb.1 a one_rest c other_rest ki.1 kj.1 (behind_first (item.Event p) xs h) (behind_first (item.Event q) ys g) in
       (λ i. head i ∷ rest i)
-  same (item.Event p ∷ xs) (item.Lost q ∷ ys) tp [] tb eb a b c d ki kj h g = absurd cc
+  same (item.Event p ∷ xs) (item.Lost q ∷ ys) tp [] tb eb a b c d ki kj h g = absurd (nil_cons p (filter_map entry_place xs) (sym b))
   same (item.Event p ∷ xs) (item.Lost q ∷ ys) tp (n ∷ ns) tb eb a b c d ki kj h g =
-      let pn : n ≡ p = cc in
-      let qn : n ≡ q = cc in
-      let one_rest : filter_map entry_place xs ≡ ns = cc in
-      let other_rest : filter_map entry_place ys ≡ ns = cc in
+      let pn = sym (head_of p n (filter_map entry_place xs) ns b) in
+      let qn = sym (head_of q n (filter_map entry_place ys) ns d) in
+      let one_rest = tail_of p n (filter_map entry_place xs) ns b in
+      let other_rest = tail_of q n (filter_map entry_place ys) ns d in
       let head = head_is (item.Event p) (item.Lost q) p q n refl refl pn qn eb.0 ki.0 kj.0 in
       let rest = same xs ys tp ns tb eb.1 a one_rest c other_rest ki.1 kj.1 (behind_first (item.Event p) xs h) (behind_first (item.Lost q) ys g) in
       (λ i. head i ∷ rest i)
-  same (item.Lost p ∷ xs) (item.Event q ∷ ys) tp [] tb eb a b c d ki kj h g = absurd cc
+  same (item.Lost p ∷ xs) (item.Event q ∷ ys) tp [] tb eb a b c d ki kj h g = absurd (nil_cons p (filter_map entry_place xs) (sym b))
   same (item.Lost p ∷ xs) (item.Event q ∷ ys) tp (n ∷ ns) tb eb a b c d ki kj h g =
-      let pn : n ≡ p = cc in
-      let qn : n ≡ q = cc in
-      let one_rest : filter_map entry_place xs ≡ ns = cc in
-      let other_rest : filter_map entry_place ys ≡ ns = cc in
+      let pn = sym (head_of p n (filter_map entry_place xs) ns b) in
+      let qn = sym (head_of q n (filter_map entry_place ys) ns d) in
+      let one_rest = tail_of p n (filter_map entry_place xs) ns b in
+      let other_rest = tail_of q n (filter_map entry_place ys) ns d in
       let head = head_is (item.Lost p) (item.Event q) p q n refl refl pn qn eb.0 ki.0 kj.0 in
       let rest = same xs ys tp ns tb eb.1 a one_rest c other_rest ki.1 kj.1 (behind_first (item.Lost p) xs h) (behind_first (item.Event q) ys g) in
       (λ i. head i ∷ rest i)
-  same (item.Lost p ∷ xs) (item.Lost q ∷ ys) tp [] tb eb a b c d ki kj h g = absurd cc
+  same (item.Lost p ∷ xs) (item.Lost q ∷ ys) tp [] tb eb a b c d ki kj h g = absurd (nil_cons p (filter_map entry_place xs) (sym b))
   same (item.Lost p ∷ xs) (item.Lost q ∷ ys) tp (n ∷ ns) tb eb a b c d ki kj h g =
-      let pn : n ≡ p = cc in
-      let qn : n ≡ q = cc in
-      let one_rest : filter_map entry_place xs ≡ ns = cc in
-      let other_rest : filter_map entry_place ys ≡ ns = cc in
+      let pn = sym (head_of p n (filter_map entry_place xs) ns b) in
+      let qn = sym (head_of q n (filter_map entry_place ys) ns d) in
+      let one_rest = tail_of p n (filter_map entry_place xs) ns b in
+      let other_rest = tail_of q n (filter_map entry_place ys) ns d in
       let head = head_is (item.Lost p) (item.Lost q) p q n refl refl pn qn eb.0 ki.0 kj.0 in
       let rest = same xs ys tp ns tb eb.1 a one_rest c other_rest ki.1 kj.1 (behind_first (item.Lost p) xs h) (behind_first (item.Lost q) ys g) in
       (λ i. head i ∷ rest i)
-  same (item.Tick p ∷ xs) (item.Event q ∷ ys) [] ep tb eb a b c d ki kj h g = absurd cc
-  same (item.Tick p ∷ xs) (item.Event q ∷ ys) (n ∷ ns) [] tb eb a b c d ki kj h g = absurd cc
+  same (item.Tick p ∷ xs) (item.Event q ∷ ys) [] ep tb eb a b c d ki kj h g = absurd (nil_cons p (filter_map tick_place xs) (sym a))
+  same (item.Tick p ∷ xs) (item.Event q ∷ ys) (n ∷ ns) [] tb eb a b c d ki kj h g = absurd (nil_cons q (filter_map entry_place ys) (sym d))
   same (item.Tick p ∷ xs) (item.Event q ∷ ys) (n ∷ ns) (m ∷ ms) tb eb a b c d ki kj h g =
-      let tick : n ≡ p = cc in let entry : m ≡ q = cc in
+      let tick = sym (head_of p n (filter_map tick_place xs) ns a) in let entry = sym (head_of q m (filter_map entry_place ys) ms d) in
       absurd (not_both p q (item.Event q) xs ys ns ms refl refl (subst (λ k. k < length ticks) tick tb.0) (subst (λ k. k < length entries) entry eb.0) h g (b ∙ ap (λ k. k ∷ ms) entry) (c ∙ ap (λ k. k ∷ ns) tick))
-  same (item.Event p ∷ xs) (item.Tick q ∷ ys) [] ep tb eb a b c d ki kj h g = absurd cc
-  same (item.Event p ∷ xs) (item.Tick q ∷ ys) (n ∷ ns) [] tb eb a b c d ki kj h g = absurd cc
+  same (item.Event p ∷ xs) (item.Tick q ∷ ys) [] ep tb eb a b c d ki kj h g = absurd (nil_cons q (filter_map tick_place ys) (sym c))
+  same (item.Event p ∷ xs) (item.Tick q ∷ ys) (n ∷ ns) [] tb eb a b c d ki kj h g = absurd (nil_cons p (filter_map entry_place xs) (sym b))
   same (item.Event p ∷ xs) (item.Tick q ∷ ys) (n ∷ ns) (m ∷ ms) tb eb a b c d ki kj h g =
-      let tick : n ≡ q = cc in let entry : m ≡ p = cc in
+      let tick = sym (head_of q n (filter_map tick_place ys) ns c) in let entry = sym (head_of p m (filter_map entry_place xs) ms b) in
       absurd (not_both q p (item.Event p) ys xs ns ms refl refl (subst (λ k. k < length ticks) tick tb.0) (subst (λ k. k < length entries) entry eb.0) g h (d ∙ ap (λ k. k ∷ ms) entry) (a ∙ ap (λ k. k ∷ ns) tick))
-  same (item.Tick p ∷ xs) (item.Lost q ∷ ys) [] ep tb eb a b c d ki kj h g = absurd cc
-  same (item.Tick p ∷ xs) (item.Lost q ∷ ys) (n ∷ ns) [] tb eb a b c d ki kj h g = absurd cc
+  same (item.Tick p ∷ xs) (item.Lost q ∷ ys) [] ep tb eb a b c d ki kj h g = absurd (nil_cons p (filter_map tick_place xs) (sym a))
+  same (item.Tick p ∷ xs) (item.Lost q ∷ ys) (n ∷ ns) [] tb eb a b c d ki kj h g = absurd (nil_cons q (filter_map entry_place ys) (sym d))
   same (item.Tick p ∷ xs) (item.Lost q ∷ ys) (n ∷ ns) (m ∷ ms) tb eb a b c d ki kj h g =
-      let tick : n ≡ p = cc in let entry : m ≡ q = cc in
+      let tick = sym (head_of p n (filter_map tick_place xs) ns a) in let entry = sym (head_of q m (filter_map entry_place ys) ms d) in
       absurd (not_both p q (item.Lost q) xs ys ns ms refl refl (subst (λ k. k < length ticks) tick tb.0) (subst (λ k. k < length entries) entry eb.0) h g (b ∙ ap (λ k. k ∷ ms) entry) (c ∙ ap (λ k. k ∷ ns) tick))
-  same (item.Lost p ∷ xs) (item.Tick q ∷ ys) [] ep tb eb a b c d ki kj h g = absurd cc
-  same (item.Lost p ∷ xs) (item.Tick q ∷ ys) (n ∷ ns) [] tb eb a b c d ki kj h g = absurd cc
+  same (item.Lost p ∷ xs) (item.Tick q ∷ ys) [] ep tb eb a b c d ki kj h g = absurd (nil_cons q (filter_map tick_place ys) (sym c))
+  same (item.Lost p ∷ xs) (item.Tick q ∷ ys) (n ∷ ns) [] tb eb a b c d ki kj h g = absurd (nil_cons p (filter_map entry_place xs) (sym b))
   same (item.Lost p ∷ xs) (item.Tick q ∷ ys) (n ∷ ns) (m ∷ ms) tb eb a b c d ki kj h g =
-      let tick : n ≡ q = cc in let entry : m ≡ p = cc in
+      let tick = sym (head_of q n (filter_map tick_place ys) ns c) in let entry = sym (head_of p m (filter_map entry_place xs) ms b) in
       absurd (not_both q p (item.Lost p) ys xs ns ms refl refl (subst (λ k. k < length ticks) tick tb.0) (subst (λ k. k < length entries) entry eb.0) g h (d ∙ ap (λ k. k ∷ ms) entry) (a ∙ ap (λ k. k ∷ ns) tick))
 
   pub only : (one other : List AgendaItem) → IsAgenda ticks entries one → IsAgenda ticks entries other → one ≡ other

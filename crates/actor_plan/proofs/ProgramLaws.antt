@@ -1,5 +1,6 @@
 -- The program of some items and then others.
-use Rattle.std.proofs.Common.{◌≡◌, ℕ, ◌+◌, Bool, true, false, List, [], ◌∷◌, ◌++◌, refl, sym, ap, ◌∙◌, add_assoc, zero-add, if◌then◌else◌}
+use Rattle.bt_core.specs.declared.step.Step.{Step}
+use Rattle.std.proofs.Common.{◌≡◌, ℕ, ◌+◌, Bool, true, false, List, [], ◌∷◌, ◌++◌, refl, sym, ap, ◌∙◌, add_assoc, zero-add, if◌then◌else◌, length, arith, length-append, ◌<◌}
 use Rattle.bt_core.specs.Interaction.{Interaction, Ended, and_then}
 use Rattle.bt_core.proofs.InteractionLaws.{and_then_assoc, and_then-Ended}
 use Rattle.actor_plan.specs.declared.outcome.Outcome.{Outcome}
@@ -42,3 +43,7 @@ module _ {I : Type 0} (checks : Bool) (work : I → Interaction ℕ) where
       ap (λ (p : Interaction Outcome). and_then (goes_on checks) (going i p)) (join is back)
       ∙ ap (and_then (goes_on checks)) (λ k on. going_then i (program is) (program back) on k)
       ∙ sym (and_then_assoc (goes_on checks) (going i (program is)) (then_program (program back)))
+
+-- where a step was made there is one
+pub some_step : (old new : List Step) (step : Step) → new ≡ old ++ step ∷ [] → 0 < length new
+some_step old new step grew = omega (arith, ap (λ (steps : List Step). length steps) grew, length-append old (step ∷ []))

@@ -26,3 +26,8 @@ returns c =
     let none : slice_get c.args.entries.now c.loop-entry.place ≡ None = sym c.get.ensures ∙ ap (option_map entry_seen) c.in_default.is in
     let left = none_left c.args.entries.now c.loop-entry.place none in
     sym (ap (λ l. c.loop-entry.items ++ entries_on c.loop-entry.place l) left ∙ append-nil c.loop-entry.items) ∙ c.loop-entry.invariant.items
+
+pub overflow_cast-place : goal.overflow_cast-place
+overflow_cast-place c =
+    let lt = slice_get_within c.args.entries.now c.loop-entry.place (entry_seen c.in-Some.entry) (sym c.in-Some.ensures) in
+    omega (arith, lt, c.requires.few)

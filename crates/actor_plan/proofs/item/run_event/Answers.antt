@@ -1,4 +1,5 @@
-use Rattle.std.proofs.Common.{◌≡◌, ℕ, ◌≤◌, List, [], length, ◌∙◌, refl, sym, subst}
+use Rattle.bt_core.specs.declared.context.Context.{Context}
+use Rattle.std.proofs.Common.{◌≡◌, ℕ, ◌≤◌, List, [], length, ◌∙◌, refl, sym, subst, ap}
 use Rattle.std.specs.Prelude.{All, slice_index_or}
 use Rattle.bt_core.specs.Interaction.{Interaction, Whole, Performed}
 use Rattle.bt_core.proofs.InteractionLaws.{Whole-Ended}
@@ -37,3 +38,7 @@ returns-in-Some-clause-performed g c =
     let context = c.context_of_event-context.ensures in
     subst (λ (t : Interaction ℕ). Performed t (g.P.Port.steps c.args.port.now) (g.P.Port.steps c.run_in_turn.new.port) c.run_in_turn.result)
     (λ i. in_turn (λ body. plan.run body (context i) e.payload) (which i)) c.run_in_turn.ensures.performed
+
+pub run_in_turn-requires-clause-counted : goal.run_in_turn-requires-clause-counted
+run_in_turn-requires-clause-counted g c =
+    ap (λ (x : Context). x.payload_len) c.context_of_event-context.ensures

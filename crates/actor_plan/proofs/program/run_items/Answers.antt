@@ -1,4 +1,6 @@
-use Rattle.std.proofs.Common.{◌≡◌, ℕ, ◌<◌, ◌≤◌, true, false, [], ◌∷◌, length, get_or, refl, ◌∙◌, arith, subst}
+use Rattle.bt_core.specs.Ports.{Setting}
+use Rattle.actor_plan.specs.Ready.{IsReady}
+use Rattle.std.proofs.Common.{◌≡◌, ℕ, ◌<◌, ◌≤◌, true, false, [], ◌∷◌, length, get_or, refl, ◌∙◌, arith, subst, sym}
 use Rattle.std.proofs.lemmas.Bool.{not-true, not-false}
 use Rattle.std.proofs.lemmas.Result.{err_from_is_err_and}
 use Rattle.bt_core.specs.Interaction.{Interaction, Part, Whole}
@@ -67,3 +69,16 @@ returns-clause-performed g c =
     let work : AgendaItem → Interaction ℕ = item_work (g.B.Bodies.plan c.args.bodies.now) c.args.recording.now c.args.attached.now c.args.track.now in
     let le : length c.args.items.now ≤ c.loop-item.item-index = omega arith in
     all_taken c.args.exits work c.args.items.now c.loop-item.item-index c.loop-item.instructions (item.Tick 0) (g.P.Port.steps c.args.port.now) (g.P.Port.steps c.loop-item.port) c.loop-item.invariant.left le
+
+pub take_item-requires-clause-ready : goal.take_item-requires-clause-ready
+take_item-requires-clause-ready g c =
+    let i = c.loop-item.invariant in
+    subst (λ (z : Plan × Setting). IsReady z.0 c.args.recording.now c.args.attached.now z.1) (λ k. (sym i.plan k, (sym i.port k).setting)) c.requires.ready
+
+pub returns-then-not-taken-clause-port_kept : goal.returns-then-not-taken-clause-port_kept
+returns-then-not-taken-clause-port_kept g c =
+    c.in_ok-taken.ensures.port_kept ∙ c.loop-item.invariant.port
+
+pub returns-then-not-taken-clause-plan_kept : goal.returns-then-not-taken-clause-plan_kept
+returns-then-not-taken-clause-plan_kept g c =
+    c.in_ok-taken.ensures.plan_kept ∙ c.loop-item.invariant.plan
