@@ -137,12 +137,12 @@ is_tied Less p e h = cc
 is_tied Equal p e h = refl
 is_tied Greater p e h = absurd (let r : (true && not (is_lt p)) ≡ true = h in let q : not (is_lt p) ≡ false = ap (λ o. not (is_lt o)) e in cc)
 
-tied : (s t : Scheduled) → ties is_sooner s t ≡ true → s ≡ t
+pub tied : (s t : Scheduled) → ties is_sooner s t ≡ true → s ≡ t
 tied s t h = same_item s t (is_tied (schedule_order s t) (schedule_order t s) (schedule_total.antisymm t s) h)
 
 -- ---- one list in order
 
-one_value : {X : Type 0} (z : X) (xs ys : List X) → ((x : X) → Has xs x → z ≡ x) → ((y : X) → Has ys y → z ≡ y) → length xs ≡ length ys → xs ≡ ys
+pub one_value : {X : Type 0} (z : X) (xs ys : List X) → ((x : X) → Has xs x → z ≡ x) → ((y : X) → Has ys y → z ≡ y) → length xs ≡ length ys → xs ≡ ys
 one_value z [] [] h g e = refl
 one_value z [] (y ∷ ys) h g e = absurd (omega arith)
 one_value z (x ∷ xs) [] h g e = absurd (omega arith)

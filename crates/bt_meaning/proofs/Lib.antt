@@ -16,4 +16,5 @@ pub mod TextLaws
 pub mod ThreeParts
 pub mod TicksAfter
 pub mod WalkStops
+pub mod UnderWay
 pub mod Walked

@@ -89,7 +89,7 @@ ticks_late cpu place next time (t ∷ ts) lt h = (
     later n le [] g = tt
     later n le (u ∷ us) g = (let low = g.0 in omega arith, g.1)
 
-ticks_rise : (cpu place time : ℕ) (ts : List TickTime) → NoneBefore time ts → Rises is_sooner sooner_ranks (ticks_due cpu place ts)
+pub ticks_rise : (cpu place time : ℕ) (ts : List TickTime) → NoneBefore time ts → Rises is_sooner sooner_ranks (ticks_due cpu place ts)
 ticks_rise cpu place time [] h = tt
 ticks_rise cpu place time (t ∷ ts) h = (ticks_late cpu place (place + 1) t.time ts (omega arith) h.1, ticks_rise cpu (place + 1) t.time ts h.1)
 
@@ -106,7 +106,7 @@ entries_late cpu place next time end lost (e ∷ es) lt h = (
     later t le [] g = tt
     later t le (u ∷ us) g = (let low = g.0 in omega arith, g.1, g.2)
 
-entries_rise : (cpu place time end : ℕ) (es : List RecordedEntry) → InTime time end es → Rises is_sooner sooner_ranks (entries_due cpu place es)
+pub entries_rise : (cpu place time end : ℕ) (es : List RecordedEntry) → InTime time end es → Rises is_sooner sooner_ranks (entries_due cpu place es)
 entries_rise cpu place time end [] h = tt
 entries_rise cpu place time end (e ∷ es) h = (entries_late cpu place (place + 1) (entry_time e) end (is_lost e) es (omega arith) h.2, entries_rise cpu (place + 1) (entry_time e) end es h.2)
 
@@ -248,7 +248,7 @@ map_cut f (e ∷ es) [] w ys q = let p : f e ≡ w = cc in let t : map f es ≡ 
 map_cut f (e ∷ es) (x ∷ xs) w ys q = let p : f e ≡ x = cc in let t : map f es ≡ xs ++ w ∷ ys = cc in let r = map_cut f es xs w ys t in
     record { front = e ∷ r.front; at = r.at; back = r.back; whole = ap (λ l. e ∷ l) r.whole; first = (λ i. p i ∷ r.first i); here = r.here; rest = r.rest }
 
-each_map : {A B : Type 0} (f : A → B) (P : B → Type 0) (xs : List A) → AllByRecursion (λ x. P (f x)) xs → AllByRecursion P (map f xs)
+pub each_map : {A B : Type 0} (f : A → B) (P : B → Type 0) (xs : List A) → AllByRecursion (λ x. P (f x)) xs → AllByRecursion P (map f xs)
 each_map f P [] h = tt
 each_map f P (x ∷ xs) h = (h.0, each_map f P xs h.1)
 

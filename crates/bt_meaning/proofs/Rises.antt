@@ -19,7 +19,7 @@ module _ {X : Type 0} (lt : X → X → Bool) (o : IsStrictWeakOrder lt) where
   late_put z x (y ∷ ys) e l = elim (lt y x) as (λ t. AllByRecursion (Late z) (cond t (y ∷ put_in lt x ys) (x ∷ y ∷ ys)))
       [ true ↦ (l.0, late_put z x ys e l.1) | false ↦ (e, l) ]
 
-  late_past : (x y : X) (ys : List X) → Late x y → AllByRecursion (Late y) ys → AllByRecursion (Late x) ys
+  pub late_past : (x y : X) (ys : List X) → Late x y → AllByRecursion (Late y) ys → AllByRecursion (Late x) ys
   late_past x y ys e l = each_so (Late y) (Late x) (λ w h. o.chain w y x h e) ys l
 
   rises_put : (x : X) (ys : List X) → Rises ys → Rises (put_in lt x ys)
@@ -34,7 +34,7 @@ module _ {X : Type 0} (lt : X → X → Bool) (o : IsStrictWeakOrder lt) where
   rises_ordered (x ∷ xs) = rises_put x (ordered lt xs) (rises_ordered xs)
 
   -- what is late already stays where it is
-  put_first : (x : X) (ys : List X) → AllByRecursion (Late x) ys → put_in lt x ys ≡ x ∷ ys
+  pub put_first : (x : X) (ys : List X) → AllByRecursion (Late x) ys → put_in lt x ys ≡ x ∷ ys
   put_first x [] l = refl
   put_first x (y ∷ ys) l = ap (λ t. cond t (y ∷ put_in lt x ys) (x ∷ y ∷ ys)) l.0
 

@@ -9,4 +9,5 @@ pub mod Serial
 pub mod Texts
 pub mod Ticks
 pub mod Totals
+pub mod Upcoming
 pub mod Walks

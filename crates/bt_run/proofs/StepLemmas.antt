@@ -1,5 +1,5 @@
 -- One step more of the actor whose turn it is.
-use Rattle.std.proofs.Common.{◌≡◌, ◌≢◌, ℕ, suc, max, ◌-◌, ◌<◌, ◌≤◌, Bool, true, false, cond, List, [], ◌∷◌, ◌++◌, length, drop, take, get_or, slice_index_or, slice_set, sym, refl, ap, ◌∙◌, subst, inl, arith, eq-eqb, ne_eqb}
+use Rattle.std.proofs.Common.{◌≡◌, ◌≢◌, ℕ, suc, max, ◌<◌, ◌≤◌, Bool, true, false, cond, List, [], ◌∷◌, ◌++◌, length, drop, take, slice_index_or, slice_set, sym, refl, ap, ◌∙◌, subst, inl, arith, eq-eqb, ne_eqb}
 use Rattle.std.proofs.lemmas.List.{append-nil, get_or-set_same, get_or-set_other, length-set, length-append, drop-append-le}
 use Rattle.std.proofs.lemmas.List.Elements.{filter-append}
 use mathlib.Core.Logic.{dite}
@@ -15,7 +15,6 @@ use Rattle.weave.specs.Woven.{begin_steps, main_clock, actor_clock, StampsFollow
 use Rattle.bt_core.proofs.StepLists.{AtEach-snoc}
 use Rattle.weave.proofs.Growth.{stamps_snoc}
 use Rattle.weave.proofs.Less.{not_less}
-use Rattle.bt_core.specs.Interaction.{last_reply}
 use Rattle.run_objects.specs.declared.objects.Objects.{Objects}
 use Rattle.bt_run.specs.declared.port.Turn.{Turn}
 use Rattle.run_objects.specs.Worlds.{World, answers, IsOwn}

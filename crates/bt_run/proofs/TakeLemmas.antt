@@ -1,8 +1,8 @@
 -- Items of a run, one after the other.
-use Rattle.std.proofs.Common.{◌≡◌, ℕ, zero, suc, ◌+◌, ◌<◌, Bool, true, false, if◌then◌else◌, List, [], ◌∷◌, ◌++◌, length, map, drop, get_or, slice_index_or, slice_set, refl, sym, ap, ◌∙◌, subst, arith}
+use Rattle.std.proofs.Common.{◌≡◌, ℕ, zero, suc, ◌+◌, ◌<◌, Bool, true, false, if◌then◌else◌, List, [], ◌∷◌, ◌++◌, length, map, drop, slice_index_or, slice_set, refl, sym, ap, ◌∙◌, subst, arith}
 use Rattle.std.specs.Prelude.{replicate, Some, slice_get}
 use Rattle.std.specs.List.{AllByRecursion}
-use Rattle.std.proofs.lemmas.List.{drop_more, drop_all, drop-append-le}
+use Rattle.std.proofs.lemmas.List.{drop_all, drop-append-le}
 use Rattle.bt_core.specs.declared.step.Step.{Step}
 use Rattle.bt_core.specs.Interaction.{Interaction, Whole}
 use Rattle.bt_core.specs.Steps.{RepliesFollow}
@@ -106,20 +106,20 @@ module _ (job : Job) (plans : ℕ → Plan) where
   alone_is cpu i track plan e f = ap (λ x. items_program job.typed.uses_exit (item_work x job.recording job.attached track) (i ∷ [])) f ∙ sym (ap (alone_on P cpu i) e)
 
   -- one item more
-  pub loop_steps : (order : List Scheduled) (k : ℕ) (d : Scheduled) (count : ℕ) (going next : List Bool) (before after all : List Step) → k < length order
-      → TakesNext P (get_or order k d) count going before next after → taken P (drop k order) going before ≡ all → taken P (drop (k + 1) order) next after ≡ all
-  loop_steps order k d count going next before after all lt t left =
-      sym (t.steps (drop (k + 1) order)) ∙ sym (ap (λ l. taken P l going before) (drop_more order k d lt)) ∙ left
+  pub loop_steps : (old rest : List Scheduled) (s : Scheduled) (count : ℕ) (going next : List Bool) (before after all : List Step) → old ≡ s ∷ rest
+      → TakesNext P s count going before next after → taken P old going before ≡ all → taken P rest next after ≡ all
+  loop_steps old rest s count going next before after all came t left =
+      sym (t.steps rest) ∙ sym (ap (λ l. taken P l going before) came) ∙ left
 
-  pub loop_counts : (order : List Scheduled) (k : ℕ) (d : Scheduled) (count total new : ℕ) (going next : List Bool) (before after : List Step) (all : ℕ) → k < length order
-      → TakesNext P (get_or order k d) count going before next after → new ≡ total + count → total + taken_count P (drop k order) going before ≡ all
-      → new + taken_count P (drop (k + 1) order) next after ≡ all
-  loop_counts order k d count total new going next before after all lt t e left =
-      let f = t.counted (drop (k + 1) order) in
-      let g = ap (λ l. taken_count P l going before) (drop_more order k d lt) in
-      let rest = taken_count P (drop (k + 1) order) next after in
-      let whole = taken_count P (get_or order k d ∷ drop (k + 1) order) going before in
-      let was = taken_count P (drop k order) going before in omega arith
+  pub loop_counts : (old rest : List Scheduled) (s : Scheduled) (count total new : ℕ) (going next : List Bool) (before after : List Step) (all : ℕ) → old ≡ s ∷ rest
+      → TakesNext P s count going before next after → new ≡ total + count → total + taken_count P old going before ≡ all
+      → new + taken_count P rest next after ≡ all
+  loop_counts old rest s count total new going next before after all came t e left =
+      let f = t.counted rest in
+      let g = ap (λ l. taken_count P l going before) came in
+      let now = taken_count P rest next after in
+      let whole = taken_count P (s ∷ rest) going before in
+      let was = taken_count P old going before in omega arith
 
   -- BEGIN, the items and END together
   pub all_made : (order : List Scheduled) (objects : Objects) (closed : Closed) (seen : Seen) (s1 s2 steps : List Step) (b c e n : ℕ) → order ≡ serial_order job.recording job.attached

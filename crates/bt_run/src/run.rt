@@ -22,7 +22,7 @@ ghost use Rattle.bt_run.specs.Ran.{HasRun};
 use crate::serial::make_steps;
 use bt_core::items::Items;
 use bt_core::memory::Memory;
-use bt_meaning::schedule::schedule;
+use bt_meaning::schedule::Schedule;
 use code_bodies::codes::codes_of;
 use code_bodies::laws::{code_means_walks, codes_take_few};
 use run_base::held::job_is_held;
@@ -70,13 +70,13 @@ fn make_run(alloc: Global, job: &Job) -> Result<Ran, Memory>
     codes_take_few();
     job_is_held(job);
     let codes = codes_of(alloc, job.programs.as_slice())?;
-    let order = schedule(alloc, &job.recording, &job.attached)?;
+    let schedule = Schedule::new(alloc, &job.recording, &job.attached)?;
     let objects = job_objects(alloc, job)?;
     let (objects, steps, instructions) = make_steps(
         alloc,
         job,
         codes.as_slice(),
-        order.as_slice(),
+        schedule,
         objects,
     )?;
     let made = Snapshot::of(&steps);
@@ -121,7 +121,7 @@ fn output_of(alloc: Global, form: Form, job: &Job, ran: &Ran) -> Result<Items<u8
 /// object they are those of the serial list (`serial`); the text is what they print in the form (`printed`), and what
 /// the serial list prints in it (`printed_serial`). The instructions are those that the codes of the programs take
 /// under the replies in the steps (`instructions`). Beside what the bodies take it takes time linear in the steps and
-/// the recording, and the sort of the items and that of what is emitted.
+/// the recording, for each item by the logarithm of the number of CPUs, and the sort of what is emitted.
 ///
 /// # Errors
 ///

@@ -17,7 +17,7 @@ use actor_plan::agenda::AgendaItem;
 use actor_plan::program::{run_begin, run_end, take_item};
 use bpf_interp::code::Code;
 use bt_core::memory::{Memory, sum};
-use bt_meaning::schedule::{Due, Scheduled};
+use bt_meaning::schedule::{Due, Schedule, Scheduled};
 use run_base::bodies::bodies_at;
 use run_base::job::Job;
 use run_objects::closed::Closed;
@@ -109,16 +109,16 @@ fn take_all(
     alloc: Global,
     job: &Job,
     codes: &[Code],
-    order: &[Scheduled],
+    schedule: &mut Schedule<'_>,
     port: &mut SerialPort,
 ) -> Result<u64, Memory>
     requires can { CanRunAll job.now (plans_by job.now codes.now) }
     requires can_run { AllByRecursion CanRunCode codes.now }
     requires among { port.old.turn.among ≡ true }
     requires world { port.old.world ≡ world_for job.now }
-    ensures serial { OnOk result (taken (coded_by job.now codes.now) order.now (replicate (cpus_in job.now) true)
+    ensures serial { OnOk result (taken (coded_by job.now codes.now) schedule.old (replicate (cpus_in job.now) true)
         (map unstamped port.old.steps) ≡ map unstamped port.new.steps) }
-    ensures counted { IfOk result (λ count. count ≡ taken_count (coded_by job.now codes.now) order.now (replicate (cpus_in job.now) true)
+    ensures counted { IfOk result (λ count. count ≡ taken_count (coded_by job.now codes.now) schedule.old (replicate (cpus_in job.now) true)
         (map unstamped port.old.steps)) }
     ensures world { OnOk result (port.new.world ≡ world_for job.now) }
     ensures among { OnOk result (port.new.turn.among ≡ true) }
@@ -126,8 +126,8 @@ fn take_all(
 {
     let mut going = vec![in alloc; true; job.recording.cpus.len()]?;
     let mut total = 0;
-    for item in order {
-        let count = take_next(alloc, job, codes, item, &mut going, port)?;
+    while let Some(item) = schedule.next()? {
+        let count = take_next(alloc, job, codes, &item, &mut going, port)?;
         total = sum(total, count)?;
     }
     Ok(total)
@@ -183,12 +183,12 @@ pub(crate) fn make_steps(
     alloc: Global,
     job: &Job,
     codes: &[Code],
-    order: &[Scheduled],
+    mut schedule: Schedule<'_>,
     objects: Objects,
 ) -> Result<(Closed, StepList, u64), Memory>
     requires can { CanRunAll job.now (plans_by job.now codes.now) }
     requires can_run { AllByRecursion CanRunCode codes.now }
-    requires order { order.now ≡ serial_order job.now.recording job.now.attached }
+    requires order { schedule ≡ serial_order job.now.recording job.now.attached }
     requires stand { Stand (world_for job.now) [] objects }
     ensures { IfOk result (λ made. IsMade job.now (plans_by job.now codes.now) made.0 (steps_in made.1) made.2) }
 {
@@ -196,7 +196,7 @@ pub(crate) fn make_steps(
     let ticks = job.attached.ticks.len() as u32;
     let mut port = SerialPort::new(alloc, objects, &job.typed.maps, cpus, ticks)?;
     let begun = begin(alloc, job, codes, &mut port)?;
-    let taken = take_all(alloc, job, codes, order, &mut port)?;
+    let taken = take_all(alloc, job, codes, &mut schedule, &mut port)?;
     let ended = end(alloc, job, codes, &mut port)?;
     let (objects, steps) = port.into_parts();
     let closed = objects.close(alloc)?;

@@ -1,10 +1,12 @@
 // The order of the items of two CPUs, of a recording that is read.
+ghost use Rattle.std.specs.Prelude.{IsTrue};
 ghost use Rattle.recordings.specs.Recordings.{IsValidRecording};
+ghost use Rattle.actor_plan.specs.Agendas.{AreInTurn};
 
 use bt_ast::attached::{Attached, Tick};
 use bt_core::items::Items;
 use bt_core::memory::Memory;
-use bt_meaning::schedule::{Due, Scheduled, schedule};
+use bt_meaning::schedule::{Due, Schedule, Scheduled};
 use rec_format::reading::read_recording;
 use recordings::recording::Recording;
 use std::alloc::Global;
@@ -50,6 +52,29 @@ fn push_cpu(bytes: &mut Vec<u8>, number: u32, track: Track) -> Result<(), Memory
     Ok(())
 }
 
+/// Whether ticks stand in their order.
+fn stand_in_turn(ticks: &[Tick]) -> bool
+    ensures { IsTrue result → AreInTurn ticks.now }
+{
+    for place in 1..ticks.len() {
+        let one = ticks[place - 1];
+        let next = ticks[place];
+        if next.time < one.time || (next.time == one.time && next.body < one.body) {
+            return false;
+        }
+    }
+    true
+}
+
+/// The items of a schedule, taken one by one.
+fn items_of(alloc: Global, mut schedule: Schedule<'_>) -> Result<Items<Scheduled>, Memory> {
+    let mut items = Items::new(alloc);
+    while let Some(item) = schedule.next()? {
+        items.push(item)?;
+    }
+    Ok(items)
+}
+
 /// The items of a recording with these ticks in their order.
 fn schedule_with(
     alloc: Global,
@@ -58,8 +83,8 @@ fn schedule_with(
 ) -> Result<Items<Scheduled>, Fail>
     requires { IsValidRecording recording.now }
 {
-    if ticks.len() > 9 {
-        return Err(Fail::from("too many ticks"));
+    if ticks.len() > 9 || !stand_in_turn(ticks) {
+        return Err(Fail::from("too many ticks, or out of order"));
     }
     let attached = Attached {
         bodies: Items::new(alloc),
@@ -68,7 +93,8 @@ fn schedule_with(
         begin: Items::new(alloc),
         end: Items::new(alloc),
     };
-    Ok(schedule(alloc, recording, &attached)?)
+    let schedule = Schedule::new(alloc, recording, &attached)?;
+    Ok(items_of(alloc, schedule)?)
 }
 
 /// A magic, the entries of two CPUs, ticks, and the times and items.

@@ -1,6 +1,7 @@
-use Rattle.std.proofs.Common.{◌≡◌, ℕ, ◌+◌, ◌<◌, ◌∙◌, Bool, true, List, length, map, refl, sym, ap, arith}
-use Rattle.std.specs.Prelude.{replicate}
-use Rattle.std.proofs.lemmas.List.{drop_all, length-replicate}
+use Rattle.std.proofs.Common.{◌≡◌, ℕ, ◌+◌, ◌∙◌, Bool, true, List, [], ◌∷◌, Option, Some, None, length, map, refl, sym, ap, arith}
+use Rattle.std.specs.Prelude.{replicate, MatchOption}
+use Rattle.std.proofs.lemmas.Option.{MatchOption-at_some, MatchOption-at_none}
+use Rattle.std.proofs.lemmas.List.{length-replicate}
 use Rattle.bt_meaning.specs.declared.schedule.Scheduled.{Scheduled}
 use Rattle.bt_meaning.specs.Serial.{taken, unstamped}
 use Rattle.run_base.specs.Jobs.{cpus_in, plans_by, replay_with}
@@ -14,14 +15,24 @@ none_yet m n e = omega arith
 none_left : (t c all : ℕ) → c ≡ 0 → t + c ≡ all → t ≡ all
 none_left t c all z e = omega arith
 
-pub loop-item-init : goal.loop-item-init
-loop-item-init c =
+-- what a schedule gave
+abbrev Gave : Option Scheduled → List Scheduled → List Scheduled → Type 0
+Gave next old new = MatchOption next ((old ≡ []) × (new ≡ [])) (λ item. old ≡ item ∷ new)
+
+came : (next : Option Scheduled) (old new : List Scheduled) (item : Scheduled) → next ≡ Some item → Gave next old new → old ≡ item ∷ new
+came next old new item is gave = MatchOption-at_some ((old ≡ []) × (new ≡ [])) (λ item. old ≡ item ∷ new) item is gave
+
+none_came : (next : Option Scheduled) (old new : List Scheduled) → next ≡ None → Gave next old new → old ≡ []
+none_came next old new is gave = (MatchOption-at_none ((old ≡ []) × (new ≡ [])) (λ item. old ≡ item ∷ new) is gave).0
+
+pub loop-going-init : goal.loop-going-init
+loop-going-init c =
     let P = replay_with c.args.job.now (plans_by c.args.job.now c.args.codes.now) in
     let all : c.in_ok-going.going.items ≡ replicate (cpus_in c.args.job.now) true =
     c.in_ok-going.ensures.items_if_clones_equal (λ y h. h) ∙ ap (λ (n : ℕ). replicate n true) c.len.ensures in
     record {
-      left = ap (λ (g : List Bool). taken P c.args.order.now g (map unstamped c.args.port.now.steps)) all;
-      counted = none_yet _ _ (ap (λ (g : List Bool). taken_count P c.args.order.now g (map unstamped c.args.port.now.steps)) all);
+      left = ap (λ (g : List Bool). taken P c.args.schedule.now g (map unstamped c.args.port.now.steps)) all;
+      counted = none_yet _ _ (ap (λ (g : List Bool). taken_count P c.args.schedule.now g (map unstamped c.args.port.now.steps)) all);
       long = ap length all ∙ length-replicate (cpus_in c.args.job.now) true;
       world = c.requires.world;
       among = c.requires.among;
@@ -35,43 +46,43 @@ pub take_next-requires-clause-can_run : goal.take_next-requires-clause-can_run
 take_next-requires-clause-can_run c = c.requires.can_run
 
 pub take_next-requires-clause-among : goal.take_next-requires-clause-among
-take_next-requires-clause-among c = c.loop-item.invariant.among
+take_next-requires-clause-among c = c.loop-going.invariant.among
 
 pub take_next-requires-clause-world : goal.take_next-requires-clause-world
-take_next-requires-clause-world c = c.loop-item.invariant.world
+take_next-requires-clause-world c = c.loop-going.invariant.world
 
 pub take_next-requires-clause-long : goal.take_next-requires-clause-long
-take_next-requires-clause-long c = c.loop-item.invariant.long
+take_next-requires-clause-long c = c.loop-going.invariant.long
 
 pub returns-clause-serial : goal.returns-clause-serial
 returns-clause-serial c =
     let P = replay_with c.args.job.now (plans_by c.args.job.now c.args.codes.now) in
-    sym c.loop-item.invariant.left
-    ∙ ap (λ (l : List Scheduled). taken P l c.loop-item.going.items (map unstamped c.loop-item.port.steps))
-    (drop_all c.loop-item.item-index c.args.order.now c.loop-item-test.false)
+    sym c.loop-going.invariant.left
+    ∙ ap (λ (l : List Scheduled). taken P l c.loop-going.going.items (map unstamped c.loop-going.port.steps)) (none_came _ c.loop-going.schedule c.next.new.self c.in_default.is c.in_ok-item.ensures)
 
 pub returns-clause-counted : goal.returns-clause-counted
 returns-clause-counted c =
     let P = replay_with c.args.job.now (plans_by c.args.job.now c.args.codes.now) in
-    none_left c.loop-item.total _ _
-    (ap (λ (l : List Scheduled). taken_count P l c.loop-item.going.items (map unstamped c.loop-item.port.steps))
-    (drop_all c.loop-item.item-index c.args.order.now c.loop-item-test.false)) c.loop-item.invariant.counted
+    none_left c.loop-going.total _ _
+    (ap (λ (l : List Scheduled). taken_count P l c.loop-going.going.items (map unstamped c.loop-going.port.steps)) (none_came _ c.loop-going.schedule c.next.new.self c.in_default.is c.in_ok-item.ensures)) c.loop-going.invariant.counted
 
 pub returns-clause-world : goal.returns-clause-world
-returns-clause-world c = c.loop-item.invariant.world
+returns-clause-world c = c.loop-going.invariant.world
 
 pub returns-clause-among : goal.returns-clause-among
-returns-clause-among c = c.loop-item.invariant.among
+returns-clause-among c = c.loop-going.invariant.among
 
 pub returns-clause-begun : goal.returns-clause-begun
-returns-clause-begun c = c.loop-item.invariant.begun
+returns-clause-begun c = c.loop-going.invariant.begun
 
-pub loop-item-preserved : goal.loop-item-preserved
-loop-item-preserved c = let i = c.loop-item.invariant in let t = c.in_ok-count.ensures in
-    let lt : c.loop-item.item-index < length c.args.order.now = omega arith in
+pub loop-going-smaller : goal.loop-going-smaller
+loop-going-smaller c = let e = ap length (came _ c.loop-going.schedule c.next.new.self c.in-Some.item c.in-Some.is c.in_ok-item.ensures) in omega (arith, e)
+
+pub loop-going-preserved : goal.loop-going-preserved
+loop-going-preserved c = let i = c.loop-going.invariant in let t = c.in_ok-count.ensures in
     record {
-      left = loop_steps c.args.job.now (plans_by c.args.job.now c.args.codes.now) c.args.order.now c.loop-item.item-index _ c.in_ok-count.count c.loop-item.going.items _ (map unstamped c.loop-item.port.steps) _ _ lt t.next i.left;
-      counted = loop_counts c.args.job.now (plans_by c.args.job.now c.args.codes.now) c.args.order.now c.loop-item.item-index _ c.in_ok-count.count c.loop-item.total _ c.loop-item.going.items _ (map unstamped c.loop-item.port.steps) _ _ lt t.next c.in_ok-total.ensures.both i.counted;
+      left = loop_steps c.args.job.now (plans_by c.args.job.now c.args.codes.now) c.loop-going.schedule c.next.new.self c.in-Some.item c.in_ok-count.count c.loop-going.going.items _ (map unstamped c.loop-going.port.steps) _ _ (came _ c.loop-going.schedule c.next.new.self c.in-Some.item c.in-Some.is c.in_ok-item.ensures) t.next i.left;
+      counted = loop_counts c.args.job.now (plans_by c.args.job.now c.args.codes.now) c.loop-going.schedule c.next.new.self c.in-Some.item c.in_ok-count.count c.loop-going.total _ c.loop-going.going.items _ (map unstamped c.loop-going.port.steps) _ _ (came _ c.loop-going.schedule c.next.new.self c.in-Some.item c.in-Some.is c.in_ok-item.ensures) t.next c.in_ok-total.ensures.both i.counted;
       long = t.long;
       world = t.world;
       among = t.among;
