@@ -3,13 +3,13 @@ use Rattle.std.proofs.Common.{◌≡◌, ℕ, zero, suc, ◌+◌, ◌<◌, ◌^�
 use Rattle.std.specs.Prelude.{slice_get, Option, Some, None}
 use Rattle.std.specs.List.{All, AllByRecursion, cons_option, filter, flat_map, sum_by}
 use Rattle.std.specs.List.Sorted.{ties, IsPermutation, IsSortedBy}
-use Rattle.std.specs.BinaryHeap.{IsHeap, IsUpperBound}
+use Rattle.std.specs.BinaryHeap.{IsHeap, IsUpperBound, lt_by_cmp}
 use Rattle.std.specs.declared.cmp.Ordering.{Ordering}
 use Rattle.std.specs.declared.cmp.Reverse.{Reverse}
 use Rattle.std.proofs.lemmas.List.{length-append}
 use Rattle.std.proofs.lemmas.List.Elements.{filter-append}
 use Rattle.std.proofs.lemmas.List.Sums.{sum_by-cons}
-use Rattle.std.proofs.lemmas.List.Sorted.{sum_by-IsPermutation, All-permutation, IsPermutation-map}
+use Rattle.std.proofs.lemmas.List.Sorted.{length_permutation, sum_by-IsPermutation, All-permutation, IsPermutation-map, IsPermutation-refl}
 use Rattle.std.proofs.lemmas.Option.{slice_get_within}
 use Rattle.bt_core.specs.Sorted.{put_in, ordered}
 use Rattle.bt_core.proofs.StableOrder.{stable_order}
@@ -27,7 +27,7 @@ use Rattle.bt_meaning.specs.declared.schedule.Due.{Due}
 use Rattle.bt_meaning.specs.declared.schedule.Due.TheVariants.{Tick, Entry}
 use Rattle.bt_meaning.specs.declared.schedule.Scheduled.{Scheduled}
 use Rattle.bt_meaning.specs.Schedules.{is_sooner, ticks_due, entry_due, entries_due, all_due, serial_order}
-use Rattle.bt_meaning.specs.Upcoming.{tick_at, entry_at, first_items, item_behind, items_behind, items_from, upcoming, Ascends, head_item, later_order, IsUnderWay}
+use Rattle.bt_meaning.specs.Upcoming.{tick_at, entry_at, first_items, item_behind, items_behind, items_from, upcoming, Ascends, head_item, later_order, HasReplaced, IsUnderWay}
 use Rattle.bt_meaning.specs.contracts.schedule.ScheduledOrd.TheImpl as derived
 use Rattle.bt_meaning.proofs.DueOrder.{derived_is, sooner_ranks, tied, one_value}
 use Rattle.bt_meaning.proofs.Eachs.{each_both}
@@ -87,11 +87,11 @@ two_more old one both t e t' e' rest first second is also =
 
 -- ---- what holds of each item
 
-all_each : (P : Scheduled → Type 0) (xs : List Scheduled) → All P xs → AllByRecursion P xs
+all_each : {X : Type 0} (P : X → Type 0) (xs : List X) → All P xs → AllByRecursion P xs
 all_each P [] h = tt
 all_each P (x ∷ xs) h = (h 0 x (omega arith), all_each P xs (λ k d lt. h (suc k) d (omega (arith, lt))))
 
-each_all : (P : Scheduled → Type 0) (xs : List Scheduled) → AllByRecursion P xs → All P xs
+each_all : {X : Type 0} (P : X → Type 0) (xs : List X) → AllByRecursion P xs → All P xs
 each_all P [] h k d lt = absurd (omega (arith, lt))
 each_all P (x ∷ xs) h zero d lt = h.0
 each_all P (x ∷ xs) h (suc k) d lt = each_all P xs h.1 k d (omega (arith, lt))
@@ -186,6 +186,16 @@ later_is = λ i s t. derived_is t.0 s.0 i
 pub heap_derived : (hs : List (Reverse Scheduled)) → IsHeap later_order hs → IsHeap later_derived hs
 heap_derived hs heap = subst (λ (o : Reverse Scheduled → Reverse Scheduled → Ordering). IsHeap o hs) (sym later_is) heap
 
+pub heap_is : (hs : List (Reverse Scheduled)) → IsHeap later_derived hs → IsHeap later_order hs
+heap_is hs heap = subst (λ (o : Reverse Scheduled → Reverse Scheduled → Ordering). IsHeap o hs) later_is heap
+
+-- what is above all items of a heap is above those behind the first
+pub above_rest : (hs rest : List (Reverse Scheduled)) (x : Reverse Scheduled) → IsPermutation hs (x ∷ rest) → IsUpperBound later_derived x hs → IsUpperBound later_order x rest
+above_rest hs rest x moved top =
+    let below : Reverse Scheduled → Type 0 = λ y. lt_by_cmp later_order x y ≡ false in
+    let above = subst (λ (o : Reverse Scheduled → Reverse Scheduled → Ordering). IsUpperBound o x hs) later_is top in
+    (all_each below (x ∷ rest) (All-permutation below hs (x ∷ rest) moved (each_all below hs above))).1
+
 -- when the top is taken, and what is behind it has its place
 pub record Advances (ticks : List TickTime) (tracks : List CpuTrack) (hs next : List (Reverse Scheduled)) (x : Reverse Scheduled) : Type 0 where
   pub under : IsUnderWay ticks tracks next
@@ -207,6 +217,30 @@ advances ticks tracks hs rest next x o under popped pushed behind top heap =
       };
       first = comes_first ticks tracks (map head_item hs) (map head_item rest) (map head_item next) x.0 o taken pushed behind under.ascend late;
     }
+
+-- a list with the items of another one that has some has a first one, whatever stands for it where there is none
+one_first : (hs : List (Reverse Scheduled)) (x y : Reverse Scheduled) → get_or hs 0 x ≡ x → get_or hs 0 y ≡ y → (rest : List (Reverse Scheduled)) → IsPermutation hs (y ∷ rest) → x ≡ y
+one_first [] x y is also rest moved = absurd (omega (arith, length_permutation [] (y ∷ rest) moved))
+one_first (h ∷ hs) x y is also rest moved = sym is ∙ also
+
+-- when another item stands in the place of the top
+pub replaced : (ticks : List TickTime) (tracks : List CpuTrack) (hs next : List (Reverse Scheduled)) (x : Reverse Scheduled) (behind : Scheduled) → IsUnderWay ticks tracks hs
+    → HasReplaced hs next behind → item_behind ticks tracks x.0.due ≡ Some behind → get_or hs 0 x ≡ x → Advances ticks tracks hs next x
+replaced ticks tracks hs next x behind under put is lay =
+    let same : x ≡ put.first = one_first hs x put.first lay put.lay put.rest put.was in
+    subst (λ (y : Reverse Scheduled). item_behind ticks tracks y.0.due ≡ Some behind → Advances ticks tracks hs next y) (sym same)
+    (λ behind_first. advances ticks tracks hs put.rest next put.first (Some behind) under put.was put.now behind_first
+    (subst (λ (o : Reverse Scheduled → Reverse Scheduled → Ordering). IsUpperBound o put.first put.rest) (sym later_is) put.soonest)
+    (heap_derived next put.heap))
+    is
+
+-- when the top is taken, and nothing is behind it
+pub removed : (ticks : List TickTime) (tracks : List CpuTrack) (hs rest : List (Reverse Scheduled)) (x last : Reverse Scheduled) → IsUnderWay ticks tracks hs
+    → item_behind ticks tracks x.0.due ≡ None → get_or hs 0 x ≡ x → get_or hs 0 last ≡ last → IsPermutation hs (last ∷ rest) → IsUpperBound later_derived last rest
+    → IsHeap later_derived rest → Advances ticks tracks hs rest last
+removed ticks tracks hs rest x last under none lay also moved top heap =
+    let same = one_first hs x last lay also rest moved in
+    advances ticks tracks hs rest rest last None under moved (IsPermutation-refl (map head_item rest)) (ap (λ (y : Reverse Scheduled). item_behind ticks tracks y.0.due) (sym same) ∙ none) top heap
 
 -- ---- the beginning
 

@@ -1,10 +1,11 @@
 -- A schedule that is under way: what is to come, told by the next tick and the next entry of each CPU.
-use Rattle.std.specs.Prelude.{◌≡◌, ℕ, ⊤, ◌+◌, ◌<◌, ◌≤◌, ◌^◌, false, List, [], ◌∷◌, Option, drop, length, map, slice_get}
+use Rattle.std.specs.Prelude.{◌≡◌, ℕ, ⊤, ◌+◌, ◌<◌, ◌≤◌, ◌^◌, false, List, [], ◌∷◌, Option, drop, get_or, length, map, slice_get}
 use Rattle.std.specs.List.{All, AllByRecursion, cons_option, flat_map}
 use Rattle.std.specs.Option.{option_map}
 use Rattle.std.specs.declared.cmp.Ordering.{Ordering}
 use Rattle.std.specs.declared.cmp.Reverse.{Reverse}
-use Rattle.std.specs.BinaryHeap.{IsHeap}
+use Rattle.std.specs.BinaryHeap.{IsHeap, IsUpperBound}
+use Rattle.std.specs.List.Sorted.{IsPermutation}
 use Rattle.bt_ast.specs.declared.attached.Tick.{Tick as TickTime}
 use Rattle.recordings.specs.declared.recording.CpuTrack.{CpuTrack}
 use Rattle.recordings.specs.declared.recording.Entry.{Entry as RecordedEntry}
@@ -64,3 +65,13 @@ pub record IsUnderWay (ticks : List TickTime) (tracks : List CpuTrack) (heads : 
   pub ascend : All (λ s. Ascends (items_from ticks tracks s)) (map head_item heads)
   pub few_ticks : length ticks < 2 ^ 32
   pub few_entries : All (λ (track : CpuTrack). length track.entries ≤ 2 ^ 32) tracks
+
+-- an item stands in the place of the first one of a heap
+pub record HasReplaced (old new : List (Reverse Scheduled)) (item : Scheduled) : Type 0 where
+  pub first : Reverse Scheduled
+  pub rest : List (Reverse Scheduled)
+  pub was : IsPermutation old (first ∷ rest)
+  pub lay : get_or old 0 first ≡ first
+  pub soonest : IsUpperBound later_order first rest
+  pub now : IsPermutation (item ∷ map head_item rest) (map head_item new)
+  pub heap : IsHeap later_order new

@@ -1,12 +1,13 @@
 // The order in which a run on one thread takes the items of all agendas.
 ghost use Rattle.std.specs.Prelude.{◌≡◌, ◌++◌, [], ◌∷◌, ◌<◌, ◌≤◌, ◌^◌, MatchOption, IfOk, OnOk, length, map};
+ghost use Rattle.std.specs.BinaryHeap.{heap_items, heap_len, IsHeap};
 ghost use Rattle.std.specs.List.{All, cons_option};
 ghost use Rattle.recordings.specs.declared.recording.CpuTrack.{CpuTrack};
 ghost use Rattle.recordings.specs.InFile.{entry_seen};
 ghost use Rattle.recordings.specs.Recordings.{IsValidRecording};
 ghost use Rattle.actor_plan.specs.Agendas.{AreInTurn};
 ghost use Rattle.bt_meaning.specs.Schedules.{entry_due, serial_order};
-ghost use Rattle.bt_meaning.specs.Upcoming.{entry_at, first_items, head_item, item_behind, tick_at};
+ghost use Rattle.bt_meaning.specs.Upcoming.{entry_at, first_items, head_item, item_behind, later_order, tick_at, HasReplaced};
 
 use actor_plan::agenda::time_of;
 use bt_ast::attached::{Attached, Tick};
@@ -120,6 +121,17 @@ fn first_items(
     Ok(items)
 }
 
+/// Puts an item in the place of the first one. There is one at least.
+fn replace_first(heads: &mut BinaryHeap<Reverse<Scheduled>>, item: Scheduled)
+    requires heap { IsHeap later_order (heap_items heads.old) }
+    requires some { 0 < heap_len heads.old }
+    ensures { HasReplaced (heap_items heads.old) (heap_items heads.new) item }
+{
+    if let Some(mut first) = heads.peek_mut() {
+        *first = Reverse(item);
+    }
+}
+
 /// The items of all agendas that are still to come, in the order in which a run on one thread takes them: by time, at one time
 /// ticks before entries, ticks by their order and then by CPU, and entries by CPU and then by their place in the file. Only the
 /// next tick and the next entry of each CPU are kept, so that it takes no memory for an item.
@@ -167,18 +179,18 @@ impl<'a> Schedule<'a> {
         })
     }
 
-    /// Takes the next item, or tells that none is left. It takes time by the logarithm of the number of CPUs.
-    ///
-    /// [`Memory`] is its one error: there is no room for what is behind the item, and neither stands in the schedule then.
-    pub fn next(&mut self) -> Result<Option<Scheduled>, Memory>
-        ensures { IfOk result (λ next. MatchOption next ((self.old ≡ []) × (self.new ≡ [])) (λ item. self.old ≡ item ∷ self.new)) }
+    /// Takes the next item, or tells that none is left. It takes time by the logarithm of the number of CPUs, and no memory.
+    pub fn next(&mut self) -> Option<Scheduled>
+        ensures { MatchOption result ((self.old ≡ []) × (self.new ≡ [])) (λ item. self.old ≡ item ∷ self.new) }
     {
-        let Some(Reverse(item)) = self.heads.pop() else {
-            return Ok(None);
-        };
+        let Reverse(item) = *self.heads.peek()?;
         if let Some(behind) = item_behind(self.ticks, self.tracks, item.due) {
-            self.heads.push(Reverse(behind))?;
+            replace_first(&mut self.heads, behind);
+            return Some(item);
         }
-        Ok(Some(item))
+        let Some(Reverse(last)) = self.heads.pop() else {
+            return None;
+        };
+        Some(last)
     }
 }

@@ -126,7 +126,7 @@ fn take_all(
 {
     let mut going = vec![in alloc; true; job.recording.cpus.len()]?;
     let mut total = 0;
-    while let Some(item) = schedule.next()? {
+    while let Some(item) = schedule.next() {
         let count = take_next(alloc, job, codes, &item, &mut going, port)?;
         total = sum(total, count)?;
     }

@@ -69,7 +69,7 @@ fn stand_in_turn(ticks: &[Tick]) -> bool
 /// The items of a schedule, taken one by one.
 fn items_of(alloc: Global, mut schedule: Schedule<'_>) -> Result<Items<Scheduled>, Memory> {
     let mut items = Items::new(alloc);
-    while let Some(item) = schedule.next()? {
+    while let Some(item) = schedule.next() {
         items.push(item)?;
     }
     Ok(items)

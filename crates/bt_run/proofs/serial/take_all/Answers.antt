@@ -58,13 +58,13 @@ pub returns-clause-serial : goal.returns-clause-serial
 returns-clause-serial c =
     let P = replay_with c.args.job.now (plans_by c.args.job.now c.args.codes.now) in
     sym c.loop-going.invariant.left
-    ∙ ap (λ (l : List Scheduled). taken P l c.loop-going.going.items (map unstamped c.loop-going.port.steps)) (none_came _ c.loop-going.schedule c.next.new.self c.in_default.is c.in_ok-item.ensures)
+    ∙ ap (λ (l : List Scheduled). taken P l c.loop-going.going.items (map unstamped c.loop-going.port.steps)) (none_came _ c.loop-going.schedule c.next.new.self c.in_default.is c.next.ensures)
 
 pub returns-clause-counted : goal.returns-clause-counted
 returns-clause-counted c =
     let P = replay_with c.args.job.now (plans_by c.args.job.now c.args.codes.now) in
     none_left c.loop-going.total _ _
-    (ap (λ (l : List Scheduled). taken_count P l c.loop-going.going.items (map unstamped c.loop-going.port.steps)) (none_came _ c.loop-going.schedule c.next.new.self c.in_default.is c.in_ok-item.ensures)) c.loop-going.invariant.counted
+    (ap (λ (l : List Scheduled). taken_count P l c.loop-going.going.items (map unstamped c.loop-going.port.steps)) (none_came _ c.loop-going.schedule c.next.new.self c.in_default.is c.next.ensures)) c.loop-going.invariant.counted
 
 pub returns-clause-world : goal.returns-clause-world
 returns-clause-world c = c.loop-going.invariant.world
@@ -76,13 +76,13 @@ pub returns-clause-begun : goal.returns-clause-begun
 returns-clause-begun c = c.loop-going.invariant.begun
 
 pub loop-going-smaller : goal.loop-going-smaller
-loop-going-smaller c = let e = ap length (came _ c.loop-going.schedule c.next.new.self c.in-Some.item c.in-Some.is c.in_ok-item.ensures) in omega (arith, e)
+loop-going-smaller c = let e = ap length (came _ c.loop-going.schedule c.next.new.self c.in-Some.item c.in-Some.is c.next.ensures) in omega (arith, e)
 
 pub loop-going-preserved : goal.loop-going-preserved
 loop-going-preserved c = let i = c.loop-going.invariant in let t = c.in_ok-count.ensures in
     record {
-      left = loop_steps c.args.job.now (plans_by c.args.job.now c.args.codes.now) c.loop-going.schedule c.next.new.self c.in-Some.item c.in_ok-count.count c.loop-going.going.items _ (map unstamped c.loop-going.port.steps) _ _ (came _ c.loop-going.schedule c.next.new.self c.in-Some.item c.in-Some.is c.in_ok-item.ensures) t.next i.left;
-      counted = loop_counts c.args.job.now (plans_by c.args.job.now c.args.codes.now) c.loop-going.schedule c.next.new.self c.in-Some.item c.in_ok-count.count c.loop-going.total _ c.loop-going.going.items _ (map unstamped c.loop-going.port.steps) _ _ (came _ c.loop-going.schedule c.next.new.self c.in-Some.item c.in-Some.is c.in_ok-item.ensures) t.next c.in_ok-total.ensures.both i.counted;
+      left = loop_steps c.args.job.now (plans_by c.args.job.now c.args.codes.now) c.loop-going.schedule c.next.new.self c.in-Some.item c.in_ok-count.count c.loop-going.going.items _ (map unstamped c.loop-going.port.steps) _ _ (came _ c.loop-going.schedule c.next.new.self c.in-Some.item c.in-Some.is c.next.ensures) t.next i.left;
+      counted = loop_counts c.args.job.now (plans_by c.args.job.now c.args.codes.now) c.loop-going.schedule c.next.new.self c.in-Some.item c.in_ok-count.count c.loop-going.total _ c.loop-going.going.items _ (map unstamped c.loop-going.port.steps) _ _ (came _ c.loop-going.schedule c.next.new.self c.in-Some.item c.in-Some.is c.next.ensures) t.next c.in_ok-total.ensures.both i.counted;
       long = t.long;
       world = t.world;
       among = t.among;
