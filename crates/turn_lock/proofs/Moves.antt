@@ -18,7 +18,7 @@ use Rattle.turn_lock.specs.declared.view.Past.{Past}
 use Rattle.turn_lock.specs.declared.view.View.{View}
 use Rattle.turn_lock.specs.declared.view.Desk.{Desk}
 use Rattle.turn_lock.specs.History.{Law, made_by, StartsWith, Each}
-use Rattle.turn_lock.specs.Turns.{Part, part_of, nobody, newcomer, first_view, dealer_after, past_of, taking, keepsake, at_stage, busy, waiting, StageOk, CallerOk, KnowsPast, Knows, DeskOk, IsOut, IsHome, Kept, after, drew, left, looked, noted, Finds}
+use Rattle.turn_lock.specs.Turns.{Part, part_of, nobody, newcomer, first_view, dealer_after, past_of, taking, keepsake, at_stage, busy, waiting, StageOk, CallerOk, KnowsPast, Knows, DeskOk, IsOut, IsHome, words_of, Kept, after, drew, left, looked, noted, Finds}
 use Rattle.turn_lock.proofs.Parts.{put, put_here, put_else, at_snoc_place, waiting-le, waiting_put}
 use Rattle.turn_lock.proofs.HistoryLemmas.{Each-weaken, Each-snoc, starts_with_itself, starts_with_nothing, starts_with_start, made_by_own, made_by_others, made_by_append}
 
@@ -98,7 +98,7 @@ module _ {O : Type 0} (l : Law) (fits : O → List Op → Type 0) where
   not_idle_holds : (h : List Entry) → Idle ≡ Holds h → ⊥
   not_idle_holds h e = cc
 
-  pub draws : (slots id : ℕ) (m : M) → m.0.live ≡ true → m.0.stage ≡ Idle → Allows Rule slots id m 0 (λ n. (n + 1) % 2 ^ 64) (λ n m'. drew m n m')
+  pub draws : (slots id : ℕ) (m : M) → m.0.live ≡ true → m.0.stage ≡ Idle → Allows Rule slots id m 8 (λ n. (n + 1) % 2 ^ 64) (λ n m'. drew m n m')
   draws slots id m live idle s r _ at _ = (w, keeps, tt, kept, refl)
     where
       v : View
@@ -108,7 +108,7 @@ module _ {O : Type 0} (l : Law) (fits : O → List Op → Type 0) where
       c = v.caller
 
       n : ℕ
-      n = get_or s.words 0 0
+      n = get_or s.words 8 0
 
       w : View
       w = at_stage v (Waits n)
@@ -126,7 +126,7 @@ module _ {O : Type 0} (l : Law) (fits : O → List Op → Type 0) where
       is = (mine.live live).2
 
       n_is : n ≡ (r.base + r.count) % 2 ^ 64
-      n_is = ap (λ ws. get_or ws 0 0) r.words
+      n_is = ap (λ ws. get_or ws 8 0) r.words
 
       callers' : ℕ → Part
       callers' = put r.callers c p
@@ -137,7 +137,7 @@ module _ {O : Type 0} (l : Law) (fits : O → List Op → Type 0) where
       was : busy (r.callers c).stage ≡ 0
       was = ap (λ (q : Part). busy q.stage) is ∙ ap busy idle
 
-      kept : Rule (stepped s 0 ((n + 1) % 2 ^ 64) id m.1 w keeps)
+      kept : Rule (stepped s 8 ((n + 1) % 2 ^ 64) id m.1 w keeps)
       kept = record {
         log = r.log;
         callers = callers';
@@ -147,7 +147,7 @@ module _ {O : Type 0} (l : Law) (fits : O → List Op → Type 0) where
         count = r.count + 1;
         made = r.made;
         legal = r.legal;
-        words = ap (λ ws. set ws 0 ((n + 1) % 2 ^ 64)) r.words ∙ (λ k. word k ∷ r.base % 2 ^ 64 ∷ []);
+        words = ap (λ ws. set ws 8 ((n + 1) % 2 ^ 64)) r.words ∙ (λ k. words_of (word k) (r.base % 2 ^ 64));
         few = (let a = waiting_put l.callers r.callers c p (omega (arith, inside, r.made_fits)) in let b = r.few in let d = was in omega arith);
         small = r.small;
         made_fits = r.made_fits;
@@ -200,9 +200,9 @@ module _ {O : Type 0} (l : Law) (fits : O → List Op → Type 0) where
   stage_out log who base count homes c (Holds g) h = (h.0, h.1, h.2, refl)
 
   pub looks : (W : Desk O → ℕ → List Entry → Type 0) (slots id : ℕ) (m : M) (t : ℕ) → ((d : Desk O) (k : ℕ) (h : List Entry) → Finds l fits d k h → W d k h)
-      → m.0.live ≡ true → m.1 ≡ [] → m.0.stage ≡ Waits t → Allows Rule slots id m 1 (λ n. n) (λ n m'. looked W m n m')
+      → m.0.live ≡ true → m.1 ≡ [] → m.0.stage ≡ Waits t → Allows Rule slots id m 16 (λ n. n) (λ n m'. looked W m n m')
   looks W slots id m t tells live empty waits s r _ at _ = dite (ℕ_discrete n t) comes
-      (λ ne. (m.0, keeps, tt, unmoved s 1 id m.0 at r, λ u e. ((λ q. absurd (ne (q ∙ waits_is u t (sym e ∙ waits)))), λ _. refl)))
+      (λ ne. (m.0, keeps, tt, unmoved s 16 id m.0 at r, λ u e. ((λ q. absurd (ne (q ∙ waits_is u t (sym e ∙ waits)))), λ _. refl)))
     where
       v : View
       v = m.0
@@ -211,7 +211,7 @@ module _ {O : Type 0} (l : Law) (fits : O → List Op → Type 0) where
       c = v.caller
 
       n : ℕ
-      n = get_or s.words 1 0
+      n = get_or s.words 16 0
 
       mine : Knows r.log r.callers r.seat r.made id v
       mine = r.seats id v at
@@ -223,7 +223,7 @@ module _ {O : Type 0} (l : Law) (fits : O → List Op → Type 0) where
       is = (mine.live live).2
 
       n_is : n ≡ r.base % 2 ^ 64
-      n_is = ap (λ ws. get_or ws 1 0) r.words
+      n_is = ap (λ ws. get_or ws 16 0) r.words
 
       stage_is : (r.callers c).stage ≡ Waits t
       stage_is = ap (λ (q : Part). q.stage) is ∙ waits
@@ -234,7 +234,7 @@ module _ {O : Type 0} (l : Law) (fits : O → List Op → Type 0) where
       few : r.count < 2 ^ 64
       few = let a = waiting-le l.callers r.callers in let b = r.few in let d = r.small in let e : 2 ^ 32 < 2 ^ 64 = omega arith in omega arith
 
-      comes : n ≡ t → (w : View) × (a : Act S) × Valid s.homes m.1 a × Rule (stepped s 1 n id m.1 w a) × looked W m n (w, carried_after m.1 a)
+      comes : n ≡ t → (w : View) × (a : Act S) × Valid s.homes m.1 a × Rule (stepped s 16 n id m.1 w a) × looked W m n (w, carried_after m.1 a)
       comes now = ⊎_elim (λ (o : IsOut l fits s.homes r.callers r.made r.log). absurd (out o)) home r.slot
         where
           first : queued.0 ≡ 0
@@ -252,7 +252,7 @@ module _ {O : Type 0} (l : Law) (fits : O → List Op → Type 0) where
               let same : c ≡ o.1.0 = sym head_is ∙ other.1 in
               not_waits_holds t o.1.2.0 (sym stage_is ∙ ap (λ (k : ℕ). (r.callers k).stage) same ∙ o.1.2.1)
 
-          home : IsHome l fits s.homes r.log → (w : View) × (a : Act S) × Valid s.homes m.1 a × Rule (stepped s 1 n id m.1 w a)
+          home : IsHome l fits s.homes r.log → (w : View) × (a : Act S) × Valid s.homes m.1 a × Rule (stepped s 16 n id m.1 w a)
               × looked W m n (w, carried_after m.1 a)
           home (d, there, ok) = (w, takes 0 (Some d), ap (λ (hs : Homes). get_elem? hs 0) there, kept, tells_so)
             where
@@ -300,9 +300,9 @@ module _ {O : Type 0} (l : Law) (fits : O → List Op → Type 0) where
                     (starts_with_itself r.log) live at refl refl refl refl refl mine.seen r.seats;
               }
 
-              kept : Rule (stepped s 1 n id m.1 w (takes 0 (Some d)))
+              kept : Rule (stepped s 16 n id m.1 w (takes 0 (Some d)))
               kept = subst (λ (z : List ℕ × Homes). Rule record { words = z.0; homes = z.1; views = set s.views id w })
-                  (λ k. (sym (set-get_or s.words 1 0) k, sym homes_are k)) there_out
+                  (λ k. (sym (set-get_or s.words 16 0) k, sym homes_are k)) there_out
 
               tells_so : looked W m n (w, (0, Some d) ∷ m.1)
               tells_so u e = (
@@ -327,7 +327,7 @@ module _ {O : Type 0} (l : Law) (fits : O → List Op → Type 0) where
   stage_less log log' who base count homes homes' c d (Holds g) ne first h = absurd (ne (sym h.1 ∙ first))
 
   pub leaves : (slots id : ℕ) (m : M) (h made : List Entry) (d : Desk O) → DeskOk l fits d (h ++ made) → Each (λ e. e.caller ≡ m.0.caller) made
-      → m.0.live ≡ true → m ≡ (m.0, (0, Some d) ∷ []) → m.0.stage ≡ Holds h → Allows Rule slots id m 1 (λ n. (n + 1) % 2 ^ 64) (λ n m'. left made m m')
+      → m.0.live ≡ true → m ≡ (m.0, (0, Some d) ∷ []) → m.0.stage ≡ Holds h → Allows Rule slots id m 16 (λ n. (n + 1) % 2 ^ 64) (λ n m'. left made m m')
   leaves slots id m h made d ok by live has holds s r _ at _ =
       (w, gives, tt, kept, λ g e. (λ k. (after made v (holds_is h g (sym holds ∙ e) k), rest (has k).1)))
     where
@@ -338,7 +338,7 @@ module _ {O : Type 0} (l : Law) (fits : O → List Op → Type 0) where
       c = v.caller
 
       n : ℕ
-      n = get_or s.words 1 0
+      n = get_or s.words 16 0
 
       log' : List Entry
       log' = h ++ made
@@ -359,7 +359,7 @@ module _ {O : Type 0} (l : Law) (fits : O → List Op → Type 0) where
       is = (mine.live live).2
 
       n_is : n ≡ r.base % 2 ^ 64
-      n_is = ap (λ ws. get_or ws 1 0) r.words
+      n_is = ap (λ ws. get_or ws 16 0) r.words
 
       stage_is : (r.callers c).stage ≡ Holds h
       stage_is = ap (λ (q : Part). q.stage) is ∙ holds
@@ -382,8 +382,8 @@ module _ {O : Type 0} (l : Law) (fits : O → List Op → Type 0) where
       homes_are : homes_after s.homes m.1 gives ≡ homes'
       homes_are = ap (λ (z : M). put_back s.homes z.1) has ∙ ap (λ (hs : Homes). set hs 0 (some (Some d))) turn.3
 
-      words_are : set s.words 1 ((n + 1) % 2 ^ 64) ≡ (r.base + 1 + (r.count - 1)) % 2 ^ 64 ∷ (r.base + 1) % 2 ^ 64 ∷ []
-      words_are = ap (λ ws. set ws 1 ((n + 1) % 2 ^ 64)) r.words ∙ (λ k. ticket k ∷ serving k ∷ [])
+      words_are : set s.words 16 ((n + 1) % 2 ^ 64) ≡ words_of ((r.base + 1 + (r.count - 1)) % 2 ^ 64) ((r.base + 1) % 2 ^ 64)
+      words_are = ap (λ ws. set ws 16 ((n + 1) % 2 ^ 64)) r.words ∙ (λ k. words_of (ticket k) (serving k))
         where
           ticket : (r.base + r.count) % 2 ^ 64 ≡ (r.base + 1 + (r.count - 1)) % 2 ^ 64
           ticket = ap (λ (k : ℕ). k % 2 ^ 64) (let a = turn.0 in let e : r.base + r.count ≡ r.base + 1 + (r.count - 1) = omega arith in e)
@@ -402,7 +402,7 @@ module _ {O : Type 0} (l : Law) (fits : O → List Op → Type 0) where
       none_of : (e : ℕ) → e ≢ c → made_by e log' ≡ made_by e r.log
       none_of e ne = made_by_append e h made ∙ (λ k. made_by e (turn.2 k) ++ made_by_others c e made ne by k) ∙ append-nil (made_by e r.log)
 
-      kept_so : Rule record { words = (r.base + 1 + (r.count - 1)) % 2 ^ 64 ∷ (r.base + 1) % 2 ^ 64 ∷ []; homes = homes'; views = set s.views id w }
+      kept_so : Rule record { words = words_of ((r.base + 1 + (r.count - 1)) % 2 ^ 64) ((r.base + 1) % 2 ^ 64); homes = homes'; views = set s.views id w }
       kept_so = record {
         log = log';
         callers = callers';
@@ -431,11 +431,11 @@ module _ {O : Type 0} (l : Law) (fits : O → List Op → Type 0) where
         seats = moved r.log log' r.callers r.seat r.made id s.views v w p longer live at refl refl refl refl refl (starts_with_itself log') r.seats;
       }
 
-      kept : Rule (stepped s 1 ((n + 1) % 2 ^ 64) id m.1 w gives)
+      kept : Rule (stepped s 16 ((n + 1) % 2 ^ 64) id m.1 w gives)
       kept = subst (λ (z : List ℕ × Homes). Rule record { words = z.0; homes = z.1; views = set s.views id w })
           (λ k. (sym words_are k, sym homes_are k)) kept_so
 
-  pub notes : (slots id : ℕ) (m : M) → m.0.live ≡ true → Allows Rule slots id m 1 (λ n. n) (λ n m'. noted m m')
+  pub notes : (slots id : ℕ) (m : M) → m.0.live ≡ true → Allows Rule slots id m 16 (λ n. n) (λ n m'. noted m m')
   notes slots id m live s r _ at _ = (w, keeps, tt, kept, ((r.log, refl, made_by_mine, past, mine.seen), refl))
     where
       v : View
@@ -507,8 +507,8 @@ module _ {O : Type 0} (l : Law) (fits : O → List Op → Type 0) where
             (starts_with_itself r.log) r.seats;
       }
 
-      kept : Rule (stepped s 1 (get_or s.words 1 0) id m.1 w keeps)
-      kept = subst (λ (z : List ℕ). Rule record { words = z; homes = s.homes; views = set s.views id w }) (sym (set-get_or s.words 1 0)) kept_so
+      kept : Rule (stepped s 16 (get_or s.words 16 0) id m.1 w keeps)
+      kept = subst (λ (z : List ℕ). Rule record { words = z; homes = s.homes; views = set s.views id w }) (sym (set-get_or s.words 16 0)) kept_so
 
   -- one more caller is made
   pub splits : (id : ℕ) (v : View) → v.live ≡ true → 0 < v.made → v.made < l.callers → Splits Rule id v (dealer_after v) (newcomer v.made)
@@ -733,7 +733,7 @@ module _ {O : Type 0} (l : Law) (fits : O → List Op → Type 0) where
       }
 
   -- a new table
-  pub starts : (d : Desk O) → 0 < l.callers → l.callers < 2 ^ 32 → d.stamp ≡ 0 → fits d.object [] → Rule (opening (0 ∷ 0 ∷ []) (Some d ∷ []) first_view)
+  pub starts : (d : Desk O) → 0 < l.callers → l.callers < 2 ^ 32 → d.stamp ≡ 0 → fits d.object [] → Rule (opening (words_of 0 0) (Some d ∷ []) first_view)
   starts d some_callers small stamp fit = record {
     log = [];
     callers = callers;

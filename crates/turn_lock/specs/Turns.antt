@@ -1,5 +1,5 @@
 -- The rule of the table, and what each step tells.
-use Rattle.std.specs.Prelude.{◌≡◌, ◌≢◌, ◌⊎◌, ℕ, zero, suc, ◌+◌, ◌%◌, ◌^◌, ◌<◌, ◌≤◌, Bool, true, false, List, [], ◌∷◌, ◌++◌, Option, Some}
+use Rattle.std.specs.Prelude.{◌≡◌, ◌≢◌, ◌⊎◌, ℕ, zero, suc, ◌+◌, ◌%◌, ◌^◌, ◌<◌, ◌≤◌, Bool, true, false, List, [], ◌∷◌, ◌++◌, replicate, Option, Some}
 use mathlib.Core.Option as maybe
 use mathlib.Core.Option.{some, none}
 use lib.ListN.{get_elem?}
@@ -51,6 +51,10 @@ keepsake v = record { live = false; caller = 0; stage = Idle; mine = []; seen = 
 abbrev pub at_stage : View → Stage → View
 at_stage v s = record v { stage = s }
 
+-- the words of a table: word 8 is the ticket that is drawn next, word 16 the one that is served, and the others are 0 and say nothing
+abbrev pub words_of : ℕ → ℕ → List ℕ
+words_of ticket served = replicate 8 0 ++ ticket ∷ replicate 7 0 ++ served ∷ replicate 7 0
+
 -- 1 where the caller has a ticket
 abbrev pub busy : Stage → ℕ
 busy Idle = 0
@@ -98,7 +102,7 @@ module _ {O : Type 0} (l : Law) (fits : O → List Op → Type 0) where
   abbrev pub IsHome : List (maybe.Option (Option (Desk O))) → List Entry → Type 0
   IsHome homes log = (d : Desk O) × (homes ≡ some (Some d) ∷ []) × DeskOk d log
 
-  -- the rule: the words count tickets, each held ticket is one caller's, the history is legal and has of each caller its own
+  -- the rule: two words count tickets, each held ticket is one caller's, the history is legal and has of each caller its own
   -- entries; the object is at home and fits the history, or out with the one caller that holds the turn
   pub record Kept (s : State (Option (Desk O)) View) : Type 0 where
     -- the whole history
@@ -113,7 +117,7 @@ module _ {O : Type 0} (l : Law) (fits : O → List Op → Type 0) where
     pub count : ℕ
     pub made : ℕ
     pub legal : IsLegal l log
-    pub words : s.words ≡ (base + count) % 2 ^ 64 ∷ base % 2 ^ 64 ∷ []
+    pub words : s.words ≡ words_of ((base + count) % 2 ^ 64) (base % 2 ^ 64)
     pub few : count ≡ waiting l.callers callers
     pub small : l.callers < 2 ^ 32
     pub made_fits : made ≤ l.callers

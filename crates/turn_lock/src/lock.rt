@@ -1,6 +1,7 @@
 // The lock: an object, and the turns of its callers.
 ghost use Rattle.std.specs.Prelude.{◌≡◌, ◌≢◌, ℕ, ◌+◌, ◌^◌, ◌<◌, true, List, [], ◌∷◌, ◌++◌, Option, Some, None, MatchBool, IfOk, OnErr, vec_len};
 ghost use Rattle.turn_lock.specs.declared.entry.Entry.{Entry};
+ghost use Rattle.turn_lock.specs.declared.lock.TheConstants.{WORDS};
 ghost use Rattle.turn_lock.specs.declared.view.Desk.{Desk};
 ghost use Rattle.turn_lock.specs.declared.view.Stage.TheVariants.{Idle, Waits, Holds};
 ghost use Rattle.turn_lock.specs.History.{Each, IsLegal, Rises, StartsWith, ops};
@@ -23,10 +24,13 @@ use std::mem;
 use std::snapshot::Snapshot;
 use std::sync::Wait;
 
-// The words of the table: the ticket that is drawn next, and the ticket that is served.
-const TICKET: usize = 0;
+// The words of the table: the ticket that is drawn next, and the ticket that is served. Each has a cache line of its own, so that
+// neither is slowed by the other, nor by what lies beside the table; the words between say nothing.
+const TICKET: usize = 8;
 
-const SERVING: usize = 1;
+const SERVING: usize = 16;
+
+const WORDS: usize = 24;
 
 /// A caller's seat while it is in a call.
 pub(crate) type Place<O> = Seat<Option<Desk<O>>, View>;
@@ -39,7 +43,7 @@ pub struct TurnLock<O: SeqObject> {
     table: Table<Option<Desk<O>>, View, About<O>, Turns, Global>,
     id: ObjectId,
     sleepers: Sleepers,
-    ghost sized: { (table.shared.table_id.words ≡ 2) × (table.shared.table_id.slots ≡ 1) },
+    ghost sized: { (table.shared.table_id.words ≡ WORDS) × (table.shared.table_id.slots ≡ 1) },
     ghost some_callers: { 0 < table.shared.key.callers },
 }
 
@@ -378,7 +382,7 @@ impl<O: SeqObject> TurnLock<O> {
         let slots = Self::slot_of(alloc, object)?;
         let about = About { first, callers };
         // A table that is refused gives its slots back, and no error of the allocator's.
-        let Ok((table, first)) = Table::new(alloc, &[0, 0], slots, &about) else {
+        let Ok((table, first)) = Table::new(alloc, &[0; WORDS], slots, &about) else {
             return Err(AllocError.into());
         };
         let lock = TurnLock {
