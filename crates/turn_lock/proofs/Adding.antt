@@ -1,8 +1,7 @@
 -- One more entry, by an object that fits the history.
-use Rattle.std.proofs.Common.{◌≡◌, ◌⊎◌, inl, inr, ℕ, suc, ◌+◌, ◌-◌, ◌<◌, max, ◌^◌, Option, Some, None, SomeIff, Result, Ok, Err, IfOk, OnErr, arith, List, [], ◌∷◌, ◌++◌, sym, refl, ap, ◌∙◌, subst}
-use mathlib.Core.Logic.{dite}
-use native.Mathlib.Decide.{ℕ_discrete}
+use Rattle.std.proofs.Common.{◌≡◌, ℕ, suc, ◌<◌, max, Option, Some, Result, Ok, Err, IfOk, OnErr, arith, List, [], ◌∷◌, ◌++◌, sym, refl, ap, ◌∙◌, subst}
 use Rattle.std.proofs.lemmas.List.{append-nil}
+use Rattle.atomic_table.specs.Table.{rest}
 use Rattle.bt_core.specs.declared.step.Op.{Op}
 use Rattle.turn_lock.specs.declared.entry.Entry.{Entry}
 use Rattle.turn_lock.specs.declared.view.Desk.{Desk}
@@ -27,18 +26,25 @@ abbrev desk_in : {D : Type 0} → D → List (ℕ × Option D) → Option D
 desk_in d [] = Some d
 desk_in d (x ∷ xs) = x.1
 
-pub same_desk : {D : Type 0} (xs : List (ℕ × Option D)) (d d' : D) → xs ≡ (0, Some d) ∷ [] → xs ≡ (0, Some d') ∷ [] → d ≡ d'
-same_desk xs d d' a b = let t : Some d ≡ Some d' = ap (desk_in d) (sym a ∙ b) in cc
+-- the desk in the one slot that a seat holds
+pub same_desk : {D : Type 0} (xs : List (ℕ × Option D)) (d d' : D) (found : Option D) → xs ≡ (0, Some d) ∷ [] → xs ≡ (0, found) ∷ rest xs → found ≡ Some d'
+    → d ≡ d'
+same_desk xs d d' found a b e = let t : Some d ≡ Some d' = ap (desk_in d) (sym a ∙ b) ∙ e in cc
 
 pub same_history : (s : Stage) (h g : List Entry) → s ≡ Holds h → s ≡ Holds g → h ≡ g
 same_history s h g a b = cc
 
-pub next_stamp : (r : Option ℕ) (n a b next : ℕ) → SomeIff r (n + 1 < 2 ^ 64) (n + 1) → r ≡ Some next → n ≡ max a b → next ≡ suc (max a b)
-next_stamp r n a b next s f e = let next_is = (subst (λ (o : Option ℕ). SomeIff o (n + 1 < 2 ^ 64) (n + 1)) f s).1 in omega (arith, next_is, e)
-
 pub ok_weaken : {A E : Type 0} (P Q : A → Type 0) (r : Result A E) → ((x : A) → P x → Q x) → IfOk r P → IfOk r Q
 ok_weaken P Q (Ok x) f h = f x h
 ok_weaken P Q (Err e) f h = tt
+
+pub ok_both : {A E : Type 0} (P Q Z : A → Type 0) (r : Result A E) → ((x : A) → P x → Q x → Z x) → IfOk r P → IfOk r Q → IfOk r Z
+ok_both P Q Z (Ok x) f p q = f x p q
+ok_both P Q Z (Err e) f p q = tt
+
+pub err_both : {A E : Type 0} (P Q Z : Type 0) (r : Result A E) → (P → Q → Z) → OnErr r P → OnErr r Q → OnErr r Z
+err_both P Q Z (Ok x) f p q = tt
+err_both P Q Z (Err e) f p q = f p q
 
 pub both_ways : {A E : Type 0} (P : A → Type 0) (Q Z : Type 0) (r : Result A E) → ((x : A) → P x → Z) → (Q → Z) → IfOk r P → OnErr r Q → Z
 both_ways P Q Z (Ok x) f g p q = f x p
@@ -83,9 +89,3 @@ each_left P (x ∷ xs) ys h = (h.0, each_left P xs ys h.1)
 pub above : (l : Law) (c : ℕ) (v w : View) (e : Entry) → Gains l c v w e → (e.floor < e.stamp) × Each (λ x. x.stamp < e.stamp) v.seen
 above l c v w e g = let t = rises_last 0 (v.seen ++ g.more.0) e (subst (Rises 0) g.more.1 g.sees.rises) in
     (t.0, each_left (λ x. x.stamp < e.stamp) v.seen g.more.0 t.2)
-
--- a clock that has no next stamp stands at its end
-pub at_end : (r : Option ℕ) (n a b : ℕ) → SomeIff r (n + 1 < 2 ^ 64) (n + 1) → r ≡ None → n ≡ max a b → a < 2 ^ 64 → b < 2 ^ 64
-    → (a ≡ 2 ^ 64 - 1) ⊎ (b ≡ 2 ^ 64 - 1)
-at_end r n a b s none is la lb = let over = subst (λ (o : Option ℕ). SomeIff o (n + 1 < 2 ^ 64) (n + 1)) none s in
-    dite (ℕ_discrete a (2 ^ 64 - 1)) (λ e. inl e) (λ ne. inr (omega (arith, over, is, ne)))

@@ -96,6 +96,10 @@ module _ {O : Type 0} (l : Law) (fits : O → List Op → Type 0) where
     pub stamp : d.stamp ≡ stamp_after 0 log
     pub object : fits d.object (ops log)
 
+  -- a seat holds the one slot, with an object that fits the history
+  abbrev pub Bears : List (ℕ × Option (Desk O)) → List Entry → Type 0
+  Bears slots log = (d : Desk O) × (slots ≡ (0, Some d) ∷ []) × DeskOk d log
+
   abbrev pub IsOut : List (maybe.Option (Option (Desk O))) → (ℕ → Part) → ℕ → List Entry → Type 0
   IsOut homes callers made log = (homes ≡ none ∷ []) × ((c : ℕ) × (c < made) × ((h : List Entry) × ((callers c).stage ≡ Holds h)))
 

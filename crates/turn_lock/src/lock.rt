@@ -5,7 +5,7 @@ ghost use Rattle.turn_lock.specs.declared.lock.TheConstants.{WORDS};
 ghost use Rattle.turn_lock.specs.declared.view.Desk.{Desk};
 ghost use Rattle.turn_lock.specs.declared.view.Stage.TheVariants.{Idle, Waits, Holds};
 ghost use Rattle.turn_lock.specs.History.{Each, IsLegal, Rises, StartsWith, ops};
-ghost use Rattle.turn_lock.specs.Turns.{Finds, Entered, DeskOk, at_stage, after, entry, first_view, Covers, Noted, Agrees};
+ghost use Rattle.turn_lock.specs.Turns.{Finds, Entered, DeskOk, Bears, at_stage, after, entry, first_view, Covers, Noted, Agrees};
 ghost use Rattle.turn_lock.specs.Calls.{caller_of, seen, Gains, Stays, Calls, Looks, MayRefuse, AreTurns, IsNew, IsPart, pasts};
 
 use crate::gate::Gate;
@@ -16,7 +16,7 @@ use crate::turn::{Joined, Turn};
 use crate::view::{About, Desk, View};
 use atomic_table::{Badge, Seat, Table};
 use bt_core::beside::beside;
-use bt_core::memory::{Memory, fitting};
+use bt_core::memory::Memory;
 use bt_core::step::{ObjectId, Op, Reply};
 use std::alloc::{AllocError, Global};
 use std::marker::Brand;
@@ -101,24 +101,32 @@ impl<O: SeqObject> TurnLock<O> {
         unreachable!()
     }
 
-    // Takes the object out of the slot that the seat holds.
-    fn take(&self, seat: &mut Place<O>) -> Desk<O>
+    // Applies the operation to the object in the slot that the seat holds, where it lies.
+    fn work(
+        &self,
+        alloc: Global,
+        seat: &mut Place<O>,
+        caller: u32,
+        floor: u64,
+        op: &Op,
+    ) -> Result<(Reply, u64), Memory>
         requires table { seat.old.table_id ≡ table_of self.now }
-        requires slot { (d : Desk O) × (seat.old.me.1 ≡ (0, Some d) ∷ []) }
+        requires own { O.is_own (kind_of O.kind self.now) op.now }
+        requires held { (h : List Entry) × (d : Desk O) × (seat.old.me.0.stage ≡ Holds h) × (seat.old.me.1 ≡ (0, Some d) ∷ []) ×
+            Finds (law_of O.kind O.is_own O.reply_after self.now) (fits_of O.kind O.stands_for self.now) d caller h }
         ensures table { seat.new.table_id ≡ seat.old.table_id }
-        ensures slot { (seat.old.me.1 ≡ (0, Some result) ∷ []) × (seat.new.me ≡ (seat.old.me.0, (0, None) ∷ [])) }
+        ensures view { seat.new.me.0 ≡ seat.old.me.0 }
+        ensures done { IfOk result (λ r. (h : List Entry) → seat.old.me.0.stage ≡ Holds h →
+            Bears (law_of O.kind O.is_own O.reply_after self.now) (fits_of O.kind O.stands_for self.now) seat.new.me.1
+            (h ++ entry caller floor r.1 op.now r.0 ∷ [])) }
+        ensures memory { OnErr result ((h : List Entry) → seat.old.me.0.stage ≡ Holds h →
+            Bears (law_of O.kind O.is_own O.reply_after self.now) (fits_of O.kind O.stands_for self.now) seat.new.me.1 h ×
+            MayRefuse (O.is_free (kind_of O.kind self.now)) h floor op.now) }
     {
-        self.table.shared.exchange(seat, 0, None).unwrap()
-    }
-
-    // Puts the object into the slot that the seat holds.
-    fn put(&self, seat: &mut Place<O>, desk: Desk<O>)
-        requires table { seat.old.table_id ≡ table_of self.now }
-        requires slot { seat.old.me.1 ≡ (0, None) ∷ [] }
-        ensures table { seat.new.table_id ≡ seat.old.table_id }
-        ensures slot { seat.new.me ≡ (seat.old.me.0, (0, Some desk) ∷ []) }
-    {
-        drop(self.table.shared.exchange(seat, 0, Some(desk)));
+        match seat.slot_mut(&self.table.shared, 0) {
+            Some(desk) => desk.serve(alloc, floor, op),
+            None => unreachable!(),
+        }
     }
 
     // Gives the slot back, serves the next ticket, and wakes its caller.
@@ -135,44 +143,40 @@ impl<O: SeqObject> TurnLock<O> {
         self.sleepers.wake(served.wrapping_add(1));
     }
 
-    // Gives the object back with one more entry, and passes the turn on.
+    // Passes the turn on, with one more entry.
     fn pass_on<W: Made>(
         &self,
         seat: &mut Place<O>,
-        desk: Desk<O>,
         caller: u32,
         floor: u64,
+        stamp: u64,
         op: &Op,
         reply: &Reply,
     )
         requires table { seat.old.table_id ≡ table_of self.now }
-        requires made { W.made ≡ entry caller floor desk.stamp op.now reply.now ∷ [] }
+        requires made { W.made ≡ entry caller floor stamp op.now reply.now ∷ [] }
         requires view { (seat.old.me.0.live ≡ true) × (seat.old.me.0.caller ≡ caller) }
-        requires slot { seat.old.me.1 ≡ (0, None) ∷ [] }
         requires held { (h : List Entry) × (seat.old.me.0.stage ≡ Holds h) ×
-            DeskOk (law_of O.kind O.is_own O.reply_after self.now) (fits_of O.kind O.stands_for self.now) desk
-            (h ++ entry caller floor desk.stamp op.now reply.now ∷ []) }
+            Bears (law_of O.kind O.is_own O.reply_after self.now) (fits_of O.kind O.stands_for self.now) seat.old.me.1
+            (h ++ entry caller floor stamp op.now reply.now ∷ []) }
         ensures table { seat.new.table_id ≡ seat.old.table_id }
         ensures view { (h : List Entry) → seat.old.me.0.stage ≡ Holds h →
-            (seat.new.me ≡ (after (entry caller floor desk.stamp op.now reply.now ∷ []) seat.old.me.0 h, [])) ×
-            IsLegal (law_of O.kind O.is_own O.reply_after self.now) (h ++ entry caller floor desk.stamp op.now reply.now ∷ []) }
+            (seat.new.me ≡ (after (entry caller floor stamp op.now reply.now ∷ []) seat.old.me.0 h, [])) ×
+            IsLegal (law_of O.kind O.is_own O.reply_after self.now) (h ++ entry caller floor stamp op.now reply.now ∷ []) }
     {
-        self.put(seat, desk);
         self.leave::<W>(seat);
     }
 
-    // Gives the object back as it was, and passes the turn on.
-    fn give_up(&self, seat: &mut Place<O>, desk: Desk<O>)
+    // Passes the turn on, with the object as it was.
+    fn give_up(&self, seat: &mut Place<O>)
         requires table { seat.old.table_id ≡ table_of self.now }
         requires view { seat.old.me.0.live ≡ true }
-        requires slot { seat.old.me.1 ≡ (0, None) ∷ [] }
         requires held { (h : List Entry) × (seat.old.me.0.stage ≡ Holds h) ×
-            DeskOk (law_of O.kind O.is_own O.reply_after self.now) (fits_of O.kind O.stands_for self.now) desk h }
+            Bears (law_of O.kind O.is_own O.reply_after self.now) (fits_of O.kind O.stands_for self.now) seat.old.me.1 h }
         ensures table { seat.new.table_id ≡ seat.old.table_id }
         ensures view { (h : List Entry) → seat.old.me.0.stage ≡ Holds h →
             (seat.new.me ≡ (after [] seat.old.me.0 h, [])) × IsLegal (law_of O.kind O.is_own O.reply_after self.now) h }
     {
-        self.put(seat, desk);
         self.leave::<Brand>(seat);
     }
 
@@ -198,23 +202,13 @@ impl<O: SeqObject> TurnLock<O> {
             (seat.new.me ≡ (after [] seat.old.me.0 h, [])) × IsLegal (law_of O.kind O.is_own O.reply_after self.now) h ×
             MayRefuse (O.is_free (kind_of O.kind self.now)) h floor op.now) }
     {
-        let Desk { mut object, stamp } = self.take(seat);
-        let last = floor.max(stamp);
-        let next = match fitting(last.checked_add(1)) {
-            Ok(next) => next,
-            Err(memory) => {
-                self.give_up(seat, Desk { object, stamp });
-                return Err(memory);
-            }
-        };
-        match object.apply(alloc, op) {
-            Ok(reply) => {
-                let stamp = next;
-                self.pass_on::<Brand>(seat, Desk { object, stamp }, caller, floor, op, &reply);
+        match self.work(alloc, seat, caller, floor, op) {
+            Ok((reply, stamp)) => {
+                self.pass_on::<Brand>(seat, caller, floor, stamp, op, &reply);
                 Ok((reply, stamp))
             }
             Err(memory) => {
-                self.give_up(seat, Desk { object, stamp });
+                self.give_up(seat);
                 Err(memory)
             }
         }
