@@ -1,5 +1,8 @@
 -- What is seen of a construct, by what is seen of its parts.
-use Rattle.std.proofs.Common.{◌≡◌, ◌++◌, [], ◌∷◌, map, sym, ap, ◌∙◌}
+use Rattle.std.proofs.Common.{◌≡◌, ◌++◌, ℕ, List, [], ◌∷◌, map, sym, ap, ◌∙◌}
+use Rattle.bt_core.specs.Text.{short_text}
+use Rattle.bt_ast.specs.declared.expr.Builtin.{Builtin}
+use Rattle.bt_ast.specs.declared.expr.ExprKind.TheVariants as kinds
 use Rattle.bt_core.specs.declared.place.Place.{Place}
 use Rattle.bt_ast.specs.declared.expr.Expr.{Expr}
 use Rattle.bt_ast.specs.declared.expr.ExprKind.{ExprKind, fold-roll-ExprKind}
@@ -12,8 +15,8 @@ use Rattle.bt_ast.specs.declared.expr.Target.TheVariants as target
 use Rattle.bt_ast.specs.declared.expr.VarRef.{VarRef}
 use Rattle.bt_core.specs.declared.operator.BinOp.{BinOp}
 use Rattle.bt_core.specs.declared.operator.UnOp.{UnOp}
-use Rattle.expr_types.specs.Mentions.{Whole, NeedsWhole, UnaryWord, BinaryWord, AndWord, OrWord}
-use Rattle.expr_types.specs.Walk.{Seen, MapSeen, TargetSeen, OnMap, OnVar, at, seen, operands, logical_seen, choose_seen, key_seen, step_seen}
+use Rattle.expr_types.specs.Mentions.{Whole, Text, OfVar, OfField, NeedsWhole, NeedsShort, Args, ReadsField, ReadsVar, UnaryWord, BinaryWord, AndWord, OrWord, TextWord, BuiltinWord, FieldWord, VarWord}
+use Rattle.expr_types.specs.Walk.{Seen, MapSeen, TargetSeen, OnMap, OnVar, at, seen, builtin_sort, map_read, operands, logical_seen, choose_seen, key_seen, step_seen}
 use Rattle.expr_types.specs.Walk.{kind_layer, target_layer, expr_layer, step_layer, map_layer, of_expr, of_kind, of_map, of_step, of_target}
 
 -- of expressions
@@ -46,6 +49,36 @@ pub choose_is : (a b c : Expr) (place : Place) → of_kind (Choose a b c) place 
 choose_is a b c place =
     ap (λ (k : ExprKind). of_kind k place) (sym (rolls-Choose a b c))
     ∙ ap (λ (f : Place → Seen). f place) (fold-roll-ExprKind (Place → Seen) TargetSeen Seen Seen MapSeen kind_layer target_layer expr_layer step_layer map_layer (ExprKind-F.Choose a b c))
+
+pub text_is : (text : List ℕ) (place : Place) → of_kind (kinds.Text text) place ≡ seen (at place (NeedsShort text) ∷ []) Text (TextWord (short_text text) ∷ [])
+text_is text place =
+    ap (λ (k : ExprKind). of_kind k place) (sym (kinds.rolls-Text text))
+    ∙ ap (λ (f : Place → Seen). f place) (fold-roll-ExprKind (Place → Seen) TargetSeen Seen Seen MapSeen kind_layer target_layer expr_layer step_layer map_layer (ExprKind-F.Text text))
+
+pub builtin_is : (b : Builtin) (place : Place) → of_kind (kinds.Builtin b) place ≡ seen [] (builtin_sort b) (BuiltinWord b ∷ [])
+builtin_is b place =
+    ap (λ (k : ExprKind). of_kind k place) (sym (kinds.rolls-Builtin b))
+    ∙ ap (λ (f : Place → Seen). f place) (fold-roll-ExprKind (Place → Seen) TargetSeen Seen Seen MapSeen kind_layer target_layer expr_layer step_layer map_layer (ExprKind-F.Builtin b))
+
+pub field_is : (name : List ℕ) (word : Place) (place : Place) → of_kind (kinds.Field name word) place ≡ seen (at place Args ∷ at word (ReadsField name) ∷ []) (OfField name) (FieldWord name ∷ [])
+field_is name word place =
+    ap (λ (k : ExprKind). of_kind k place) (sym (kinds.rolls-Field name word))
+    ∙ ap (λ (f : Place → Seen). f place) (fold-roll-ExprKind (Place → Seen) TargetSeen Seen Seen MapSeen kind_layer target_layer expr_layer step_layer map_layer (ExprKind-F.Field name word))
+
+pub var_is : (v : VarRef) (place : Place) → of_kind (kinds.Var v) place ≡ seen (at v.place (ReadsVar v.name) ∷ []) (OfVar v.name) (VarWord v.name ∷ [])
+var_is v place =
+    ap (λ (k : ExprKind). of_kind k place) (sym (kinds.rolls-Var v))
+    ∙ ap (λ (f : Place → Seen). f place) (fold-roll-ExprKind (Place → Seen) TargetSeen Seen Seen MapSeen kind_layer target_layer expr_layer step_layer map_layer (ExprKind-F.ExprKind::Var v))
+
+pub read_is : (m : MapRef) (place : Place) → of_kind (kinds.Map m) place ≡ map_read (of_map m)
+read_is m place =
+    ap (λ (k : ExprKind). of_kind k place) (sym (kinds.rolls-Map m))
+    ∙ ap (λ (f : Place → Seen). f place) (fold-roll-ExprKind (Place → Seen) TargetSeen Seen Seen MapSeen kind_layer target_layer expr_layer step_layer map_layer (ExprKind-F.ExprKind::Map m))
+
+pub paren_is : (e : Expr) (place : Place) → of_kind (kinds.Paren e) place ≡ of_expr e
+paren_is e place =
+    ap (λ (k : ExprKind). of_kind k place) (sym (kinds.rolls-Paren e))
+    ∙ ap (λ (f : Place → Seen). f place) (fold-roll-ExprKind (Place → Seen) TargetSeen Seen Seen MapSeen kind_layer target_layer expr_layer step_layer map_layer (ExprKind-F.Paren e))
 
 -- of maps and targets
 pub map_is : (m : MapRef) → of_map m ≡ key_seen (out-MapRef m).name (map of_expr (out-MapRef m).keys) (out-MapRef m).place

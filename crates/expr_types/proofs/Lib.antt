@@ -1,3 +1,5 @@
+pub mod Trees
+pub mod Operands
 pub mod Judging
 pub mod Growing
 pub mod Finding
@@ -8,5 +10,6 @@ pub mod Several
 pub mod Reading
 pub mod Keys
 pub mod Layers
+pub mod Leaves
 pub mod Indexing
 pub mod Calling

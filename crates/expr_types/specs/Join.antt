@@ -1,5 +1,5 @@
 -- What operators make of their operands, and what they break.
-use Rattle.std.specs.Prelude.{◌≡◌, ◌∷◌, [], Bool, cond, not, Option, Some}
+use Rattle.std.specs.Prelude.{◌≡◌, ◌∷◌, [], Bool, cond, not, Option, Some, Result, MatchResult}
 use Rattle.bt_ast.specs.declared.expr.Builtin.{Builtin}
 use Rattle.bt_ast.specs.declared.expr.Builtin.TheVariants.{Pid, Tid, Uid, Gid, Comm, Cpu, Nsecs, Elapsed}
 use Rattle.bt_core.specs.declared.map.Shape.{Shape}
@@ -8,11 +8,18 @@ use Rattle.bt_core.specs.declared.operator.BinOp.{BinOp}
 use Rattle.bt_core.specs.declared.operator.BinOp.TheVariants.{Eq, Ne}
 use Rattle.expr_types.specs.declared.fault.Rule.{Rule}
 use Rattle.expr_types.specs.declared.fault.Rule.TheVariants.{WrongType}
+use Rattle.expr_types.specs.declared.fault.TypeError.{TypeError}
+use Rattle.expr_types.specs.declared.fault.TypeError.TheVariants.{Memory}
+use Rattle.typed_tree.specs.declared.expr.AnyExpr.{AnyExpr}
 use Rattle.typed_tree.specs.declared.expr.NumBuiltin.TheVariants as number
 use Rattle.event_layout.specs.declared.field.Field.{Field}
 use Rattle.typed_tree.specs.Scope.{same_shape, shape_of_field}
 use Rattle.expr_types.specs.Rules.{first_of_rules, are_two}
-use Rattle.typed_tree.specs.Parts.{TreePart, FieldOf, Numeric, Command, Both, Either, Made, made}
+use Rattle.typed_tree.specs.Parts.{TreePart, FieldOf, Numeric, Command, Both, Either, Made, made, made_of}
+
+-- an answer is made so, but for want of memory
+abbrev pub Makes : Made → Result AnyExpr TypeError → Type 0
+Makes m r = MatchResult r (λ e. made_of e ≡ m) (λ e. e ≡ Memory)
 
 abbrev pub builtin_made : Builtin → Made
 builtin_made Comm = made Str (Command ∷ [])

@@ -9,7 +9,7 @@ ghost use Rattle.typed_tree.specs.Parts.{made, made_of, Literal, Prefixed, Joine
 ghost use Rattle.expr_types.specs.Judge.{Refuses};
 ghost use Rattle.expr_types.specs.Rules.{breaks};
 ghost use Rattle.expr_types.specs.Joint.{joint_breaks, joint_part};
-ghost use Rattle.expr_types.specs.Join.{builtin_made, joined_breaks, whole_breaks, both_break, same_breaks, choose_breaks, logical_part};
+ghost use Rattle.expr_types.specs.Join.{Makes, builtin_made, joined_breaks, whole_breaks, both_break, same_breaks, choose_breaks, logical_part};
 
 use crate::fault::{Rule, TypeError};
 use crate::rules::broken;
@@ -70,31 +70,21 @@ pub fn builtin(builtin: Builtin) -> AnyExpr
     AnyExpr::Num(NumExpr::Builtin(number))
 }
 
-/// A whole number, where no other type may stand.
-fn whole(value: AnyExpr, place: Place) -> Result<NumExpr, TypeError>
-    ensures refuses { Refuses (whole_breaks (made_of value).shape) place result }
-    ensures same { IfOk result (λ number. made_of value ≡ made Int (num_parts number)) }
+/// Lets a value go, and answers that a value of another type is needed at this place.
+fn refused<K: Drop>(kept: K, place: Place) -> Result<AnyExpr, TypeError>
+    ensures { result ≡ Err (Broken (record { rule = WrongType; place = place })) }
 {
-    match value {
-        AnyExpr::Num(number) => Ok(number),
-        AnyExpr::Str(text) => {
-            drop(text);
-            Err(wrong_type(place))
-        }
-    }
+    drop(kept);
+    Err(wrong_type(place))
 }
 
-/// A string, where no other type may stand.
-fn string(value: AnyExpr, place: Place) -> Result<StrExpr, TypeError>
-    ensures refuses { Refuses (same_breaks Str (made_of value).shape) place result }
-    ensures same { IfOk result (λ text. made_of value ≡ made Str (str_parts text)) }
+/// An operator before a whole number, put on the heap.
+fn prefixed(alloc: Global, op: UnOp, value: NumExpr) -> Result<AnyExpr, TypeError>
+    ensures { Makes (made Int (Prefixed op ∷ num_parts value)) result }
 {
-    match value {
-        AnyExpr::Str(text) => Ok(text),
-        AnyExpr::Num(number) => {
-            drop(number);
-            Err(wrong_type(place))
-        }
+    match Boxed::new(alloc, value) {
+        Ok(value) => Ok(AnyExpr::Num(NumExpr::Unary { op, value })),
+        Err(_) => Err(TypeError::Memory),
     }
 }
 
@@ -103,9 +93,10 @@ pub fn unary(alloc: Global, op: UnOp, value: AnyExpr, place: Place) -> Result<An
     ensures refuses { Refuses (whole_breaks (made_of value).shape) place result }
     ensures made { IfOk result (λ e. made_of e ≡ made Int (Prefixed op ∷ (made_of value).parts)) }
 {
-    let value = whole(value, place)?;
-    let value = Boxed::new(alloc, value)?;
-    Ok(AnyExpr::Num(NumExpr::Unary { op, value }))
+    match value {
+        AnyExpr::Num(value) => prefixed(alloc, op, value),
+        AnyExpr::Str(text) => refused(text, place),
+    }
 }
 
 /// Two values put on the heap, one after the other.
@@ -114,6 +105,16 @@ fn boxed_two<V: Drop>(alloc: Global, left: V, right: V) -> Result<(Boxed<V>, Box
 {
     let (right, left) = beside(right, Boxed::new(alloc, left))?;
     beside(left, Boxed::new(alloc, right))
+}
+
+/// Two whole numbers with an operator between them, put on the heap.
+fn operated(alloc: Global, op: BinOp, left: NumExpr, right: NumExpr) -> Result<AnyExpr, TypeError>
+    ensures { Makes (made Int (Joined op ∷ (num_parts left ++ num_parts right))) result }
+{
+    match boxed_two(alloc, left, right) {
+        Ok((left, right)) => Ok(AnyExpr::Num(NumExpr::Binary { op, left, right })),
+        Err(_) => Err(TypeError::Memory),
+    }
 }
 
 /// A whole number and a second operand with an operator between them.
@@ -127,24 +128,26 @@ fn binary_number(
     ensures refuses { Refuses (joined_breaks op Int (made_of right).shape) place result }
     ensures made { IfOk result (λ e. made_of e ≡ made Int (Joined op ∷ (num_parts left ++ (made_of right).parts))) }
 {
-    let (left, right) = beside(left, whole(right, place))?;
-    let (left, right) = boxed_two(alloc, left, right)?;
-    Ok(AnyExpr::Num(NumExpr::Binary { op, left, right }))
-}
-
-/// Whether an operator between strings is `==`; it may be `!=` and no other one.
-fn equality(op: BinOp, place: Place) -> Result<bool, TypeError>
-    ensures refuses { Refuses (joined_breaks op Str Str) place result }
-    ensures same { IfOk result (λ equal. op ≡ compared equal) }
-{
-    match op {
-        BinOp::Eq => Ok(true),
-        BinOp::Ne => Ok(false),
-        _ => Err(wrong_type(place)),
+    match right {
+        AnyExpr::Num(right) => operated(alloc, op, left, right),
+        AnyExpr::Str(text) => {
+            drop(left);
+            refused(text, place)
+        }
     }
 }
 
-/// Two strings with an operator between them.
+/// Two strings that are compared, put on the heap: `==` where `equal`, otherwise `!=`.
+fn equated(alloc: Global, equal: bool, left: StrExpr, right: StrExpr) -> Result<AnyExpr, TypeError>
+    ensures { Makes (made Int (Joined (compared equal) ∷ (str_parts left ++ str_parts right))) result }
+{
+    match boxed_two(alloc, left, right) {
+        Ok((left, right)) => Ok(AnyExpr::Num(NumExpr::Compare { equal, left, right })),
+        Err(_) => Err(TypeError::Memory),
+    }
+}
+
+/// Two strings with an operator between them, which may be `==` or `!=` and no other one.
 fn compare(
     alloc: Global,
     op: BinOp,
@@ -155,9 +158,14 @@ fn compare(
     ensures refuses { Refuses (joined_breaks op Str Str) place result }
     ensures made { IfOk result (λ e. made_of e ≡ made Int (Joined op ∷ (str_parts left ++ str_parts right))) }
 {
-    let ((left, right), equal) = beside((left, right), equality(op, place))?;
-    let (left, right) = boxed_two(alloc, left, right)?;
-    Ok(AnyExpr::Num(NumExpr::Compare { equal, left, right }))
+    match op {
+        BinOp::Eq => equated(alloc, true, left, right),
+        BinOp::Ne => equated(alloc, false, left, right),
+        _ => {
+            drop(left);
+            refused(right, place)
+        }
+    }
 }
 
 /// A string and a second operand with an operator between them.
@@ -171,8 +179,13 @@ fn binary_string(
     ensures refuses { Refuses (joined_breaks op Str (made_of right).shape) place result }
     ensures made { IfOk result (λ e. made_of e ≡ made Int (Joined op ∷ (str_parts left ++ (made_of right).parts))) }
 {
-    let (left, right) = beside(left, string(right, place))?;
-    compare(alloc, op, left, right, place)
+    match right {
+        AnyExpr::Str(right) => compare(alloc, op, left, right, place),
+        AnyExpr::Num(number) => {
+            drop(left);
+            refused(number, place)
+        }
+    }
 }
 
 /// Two operands with an operator between them: whole numbers, or for `==` and `!=` two values of one type.
@@ -192,13 +205,46 @@ fn binary(
     }
 }
 
-/// Two whole numbers, where no other type may stand.
-fn both_whole(left: AnyExpr, right: AnyExpr, place: Place) -> Result<(NumExpr, NumExpr), TypeError>
-    ensures refuses { Refuses (both_break (made_of left).shape (made_of right).shape) place result }
-    ensures same { IfOk result (λ both. (made_of left ≡ made Int (num_parts both.0)) × (made_of right ≡ made Int (num_parts both.1))) }
+/// Two whole numbers put on the heap, of which the second is evaluated where the first asks for it: `&&` where `both`, otherwise
+/// `||`.
+fn both_or_either(
+    alloc: Global,
+    both: bool,
+    left: NumExpr,
+    right: NumExpr,
+) -> Result<AnyExpr, TypeError>
+    ensures { Makes (made Int (logical_part both ∷ (num_parts left ++ num_parts right))) result }
 {
-    let (right, left) = beside(right, whole(left, place))?;
-    beside(left, whole(right, place))
+    match boxed_two(alloc, left, right) {
+        Err(_) => Err(TypeError::Memory),
+        Ok((left, right)) => {
+            if both {
+                Ok(AnyExpr::Num(NumExpr::AndThen { left, right }))
+            } else {
+                Ok(AnyExpr::Num(NumExpr::OrElse { left, right }))
+            }
+        }
+    }
+}
+
+/// A whole number and a second operand with `&&` or `||` between them.
+fn logical_number(
+    alloc: Global,
+    both: bool,
+    left: NumExpr,
+    right: AnyExpr,
+    place: Place,
+) -> Result<AnyExpr, TypeError>
+    ensures refuses { Refuses (both_break Int (made_of right).shape) place result }
+    ensures made { IfOk result (λ e. made_of e ≡ made Int (logical_part both ∷ (num_parts left ++ (made_of right).parts))) }
+{
+    match right {
+        AnyExpr::Num(right) => both_or_either(alloc, both, left, right),
+        AnyExpr::Str(text) => {
+            drop(left);
+            refused(text, place)
+        }
+    }
 }
 
 /// Two operands of which the second is evaluated where the first asks for it: `&&` where `both`, otherwise `||`.
@@ -212,12 +258,12 @@ fn logical(
     ensures refuses { Refuses (both_break (made_of left).shape (made_of right).shape) place result }
     ensures made { IfOk result (λ e. made_of e ≡ made Int (logical_part both ∷ ((made_of left).parts ++ (made_of right).parts))) }
 {
-    let (left, right) = both_whole(left, right, place)?;
-    let (left, right) = boxed_two(alloc, left, right)?;
-    if both {
-        Ok(AnyExpr::Num(NumExpr::AndThen { left, right }))
-    } else {
-        Ok(AnyExpr::Num(NumExpr::OrElse { left, right }))
+    match left {
+        AnyExpr::Num(left) => logical_number(alloc, both, left, right, place),
+        AnyExpr::Str(text) => {
+            drop(right);
+            refused(text, place)
+        }
     }
 }
 
@@ -251,6 +297,25 @@ fn boxed_three<C: Drop, V: Drop>(
     beside(condition, boxed_two(alloc, values.0, values.1))
 }
 
+/// A choice of whole numbers, put on the heap.
+fn chosen_number(
+    alloc: Global,
+    condition: NumExpr,
+    yes: NumExpr,
+    no: NumExpr,
+) -> Result<AnyExpr, TypeError>
+    ensures { Makes (made Int (Chosen ∷ (num_parts condition ++ (num_parts yes ++ num_parts no)))) result }
+{
+    match boxed_three(alloc, condition, (yes, no)) {
+        Ok((condition, values)) => Ok(AnyExpr::Num(NumExpr::Choose {
+            condition,
+            yes: values.0,
+            no: values.1,
+        })),
+        Err(_) => Err(TypeError::Memory),
+    }
+}
+
 /// `condition ? yes : no` where what is chosen first is a whole number.
 fn choose_number(
     alloc: Global,
@@ -262,9 +327,33 @@ fn choose_number(
     ensures refuses { Refuses (same_breaks Int (made_of no).shape) place result }
     ensures made { IfOk result (λ e. made_of e ≡ made Int (Chosen ∷ (num_parts condition ++ (num_parts yes ++ (made_of no).parts)))) }
 {
-    let ((condition, yes), no) = beside((condition, yes), whole(no, place))?;
-    let (condition, (yes, no)) = boxed_three(alloc, condition, (yes, no))?;
-    Ok(AnyExpr::Num(NumExpr::Choose { condition, yes, no }))
+    match no {
+        AnyExpr::Num(no) => chosen_number(alloc, condition, yes, no),
+        AnyExpr::Str(text) => {
+            drop(condition);
+            drop(yes);
+            refused(text, place)
+        }
+    }
+}
+
+/// A choice of strings, put on the heap.
+fn chosen_string(
+    alloc: Global,
+    condition: NumExpr,
+    yes: StrExpr,
+    no: StrExpr,
+) -> Result<AnyExpr, TypeError>
+    ensures { Makes (made Str (Chosen ∷ (num_parts condition ++ (str_parts yes ++ str_parts no)))) result }
+{
+    match boxed_three(alloc, condition, (yes, no)) {
+        Ok((condition, values)) => Ok(AnyExpr::Str(StrExpr::Choose {
+            condition,
+            yes: values.0,
+            no: values.1,
+        })),
+        Err(_) => Err(TypeError::Memory),
+    }
 }
 
 /// `condition ? yes : no` where what is chosen first is a string.
@@ -278,9 +367,32 @@ fn choose_string(
     ensures refuses { Refuses (same_breaks Str (made_of no).shape) place result }
     ensures made { IfOk result (λ e. made_of e ≡ made Str (Chosen ∷ (num_parts condition ++ (str_parts yes ++ (made_of no).parts)))) }
 {
-    let ((condition, yes), no) = beside((condition, yes), string(no, place))?;
-    let (condition, (yes, no)) = boxed_three(alloc, condition, (yes, no))?;
-    Ok(AnyExpr::Str(StrExpr::Choose { condition, yes, no }))
+    match no {
+        AnyExpr::Str(no) => chosen_string(alloc, condition, yes, no),
+        AnyExpr::Num(number) => {
+            drop(condition);
+            drop(yes);
+            refused(number, place)
+        }
+    }
+}
+
+/// `condition ? yes : no` where the condition is a whole number.
+fn choose_by(
+    alloc: Global,
+    condition: NumExpr,
+    yes: AnyExpr,
+    no: AnyExpr,
+    place: Place,
+) -> Result<AnyExpr, TypeError>
+    ensures refuses { Refuses (same_breaks (made_of yes).shape (made_of no).shape) place result }
+    ensures made { IfOk result (λ e. made_of e
+        ≡ made (made_of yes).shape (Chosen ∷ (num_parts condition ++ ((made_of yes).parts ++ (made_of no).parts)))) }
+{
+    match yes {
+        AnyExpr::Num(yes) => choose_number(alloc, condition, yes, no, place),
+        AnyExpr::Str(yes) => choose_string(alloc, condition, yes, no, place),
+    }
 }
 
 /// `condition ? yes : no`: a whole number, and two values of one type.
@@ -295,9 +407,12 @@ pub fn choose(
     ensures made { IfOk result (λ e. made_of e
         ≡ made (made_of yes).shape (Chosen ∷ ((made_of condition).parts ++ ((made_of yes).parts ++ (made_of no).parts)))) }
 {
-    let ((yes, no), condition) = beside((yes, no), whole(condition, place))?;
-    match yes {
-        AnyExpr::Num(yes) => choose_number(alloc, condition, yes, no, place),
-        AnyExpr::Str(yes) => choose_string(alloc, condition, yes, no, place),
+    match condition {
+        AnyExpr::Num(condition) => choose_by(alloc, condition, yes, no, place),
+        AnyExpr::Str(text) => {
+            drop(yes);
+            drop(no);
+            refused(text, place)
+        }
     }
 }

@@ -1,10 +1,11 @@
 // Mentions of maps.
-ghost use Rattle.std.specs.Prelude.{◌≡◌, ◌∷◌, true, IfOk, OnOk, map};
+ghost use Rattle.std.specs.Prelude.{◌≡◌, ◌∷◌, true, IfOk, OnOk, MatchResult, map};
 ghost use Rattle.std.specs.Option.{option_copied};
 ghost use Rattle.bt_core.specs.declared.map.MapKind.TheVariants.{Ints};
 ghost use Rattle.bt_core.specs.declared.map.Shape.TheVariants.{Int};
 ghost use Rattle.typed_tree.specs.Parts.{made_of, num_parts, key_shapes, keyed_parts, Stepped};
-ghost use Rattle.typed_tree.specs.Scope.{is_fine_kind};
+ghost use Rattle.typed_tree.specs.Scope.{is_fine_kind, is_fine_decl};
+ghost use Rattle.expr_types.specs.declared.fault.TypeError.TheVariants.{Memory as NoMemory};
 ghost use Rattle.expr_types.specs.Known.{decl_in, decides};
 ghost use Rattle.expr_types.specs.Judge.{Refuses};
 ghost use Rattle.expr_types.specs.Rules.{read_breaks, write_breaks};
@@ -12,8 +13,7 @@ ghost use Rattle.expr_types.specs.Maps.{kind_held, read_made};
 
 use crate::fault::TypeError;
 use crate::known::Known;
-use crate::rules::{read_breaks, refuse, write_breaks};
-use bt_core::beside::beside;
+use crate::rules::{broken, read_breaks, write_breaks};
 use bt_core::items::Items;
 use bt_core::map::{MapDecl, MapId, MapKind, Shape};
 use bt_core::memory::Memory;
@@ -61,6 +61,29 @@ fn value_of(kind: MapKind, keyed: Keyed) -> AnyExpr
     }
 }
 
+/// What no rule forbids: a mention that decides this kind.
+fn settle(
+    alloc: Global,
+    known: &mut Known,
+    name: &Items<u8>,
+    kind: MapKind,
+    shapes: Items<Shape>,
+) -> Result<(), TypeError>
+    requires { is_fine_decl (record { name = name.now; kind = kind; key_shape = shapes }) ≡ true }
+    ensures { MatchResult result (λ _. known.new ≡ decides known.old name.now kind shapes) (λ e. e ≡ NoMemory) }
+{
+    match known.mention(alloc, name) {
+        Ok(()) => match known.decide(alloc, name, kind, shapes) {
+            Ok(()) => Ok(()),
+            Err(_) => Err(TypeError::Memory),
+        },
+        Err(_) => {
+            drop(shapes);
+            Err(TypeError::Memory)
+        }
+    }
+}
+
 /// A mention that decides that a map holds whole numbers, where nothing is decided, with a key of these parts.
 fn read_mention(
     alloc: Global,
@@ -73,13 +96,13 @@ fn read_mention(
     ensures learned { OnOk result (known.new ≡ decides known.old name.now Ints (key_shapes (map made_of keys.now))) }
 {
     let shapes = shapes(alloc, keys.as_slice())?;
-    refuse(
-        read_breaks(known, name.as_slice(), shapes.as_slice()),
-        place,
-    )?;
-    known.mention(alloc, name)?;
-    known.decide(alloc, name, MapKind::Ints, shapes)?;
-    Ok(())
+    match read_breaks(known, name.as_slice(), shapes.as_slice()) {
+        None => settle(alloc, known, name, MapKind::Ints, shapes),
+        Some(rule) => {
+            drop(shapes);
+            Err(broken(rule, place))
+        }
+    }
 }
 
 /// A read of a map.
@@ -94,9 +117,13 @@ pub fn read(
     ensures learned { OnOk result (known.new ≡ decides known.old name.now Ints (key_shapes (map made_of keyed.keys))) }
     ensures made { IfOk result (λ e. made_of e ≡ read_made (kind_held (decl_in name.now known.new.decided)) keyed.map.0 (map made_of keyed.keys)) }
 {
-    let mentioned = read_mention(alloc, known, name, &keyed.keys, place);
-    let (keyed, ()) = beside(keyed, mentioned)?;
-    Ok(value_of(kind_held(known.decl(name.as_slice())), keyed))
+    match read_mention(alloc, known, name, &keyed.keys, place) {
+        Ok(()) => Ok(value_of(kind_held(known.decl(name.as_slice())), keyed)),
+        Err(error) => {
+            drop(keyed);
+            Err(error)
+        }
+    }
 }
 
 /// A mention that decides this kind, which is fine by itself.
@@ -112,13 +139,13 @@ pub fn write(
     ensures refuses { Refuses (write_breaks known.old name.now kind shapes) place result }
     ensures learned { OnOk result (known.new ≡ decides known.old name.now kind shapes) }
 {
-    refuse(
-        write_breaks(known, name.as_slice(), kind, shapes.as_slice()),
-        place,
-    )?;
-    known.mention(alloc, name)?;
-    known.decide(alloc, name, kind, shapes)?;
-    Ok(())
+    match write_breaks(known, name.as_slice(), kind, shapes.as_slice()) {
+        None => settle(alloc, known, name, kind, shapes),
+        Some(rule) => {
+            drop(shapes);
+            Err(broken(rule, place))
+        }
+    }
 }
 
 /// A mention that decides that a map holds whole numbers, with a key of these parts.
@@ -150,12 +177,19 @@ pub fn step(
     ensures learned { OnOk result (known.new ≡ decides known.old name.now Ints (key_shapes (map made_of keyed.keys))) }
     ensures made { IfOk result (λ n. num_parts n ≡ (Stepped plus prefix ∷ keyed_parts keyed.map.0 (map made_of keyed.keys) Int)) }
 {
-    let mentioned = step_mention(alloc, known, name, &keyed.keys, place);
-    let (Keyed { map, keys }, ()) = beside(keyed, mentioned)?;
-    Ok(NumExpr::StepMap {
-        map,
-        keys,
-        plus,
-        prefix,
-    })
+    match step_mention(alloc, known, name, &keyed.keys, place) {
+        Ok(()) => {
+            let Keyed { map, keys } = keyed;
+            Ok(NumExpr::StepMap {
+                map,
+                keys,
+                plus,
+                prefix,
+            })
+        }
+        Err(error) => {
+            drop(keyed);
+            Err(error)
+        }
+    }
 }

@@ -1,9 +1,8 @@
 // Which rule a mention breaks.
-ghost use Rattle.std.specs.Prelude.{◌≡◌, ◌≢◌, Bool, Err};
+ghost use Rattle.std.specs.Prelude.{◌≡◌, Bool};
 ghost use Rattle.typed_tree.specs.Scope.{same_shape, same_shapes, same_kind, is_fine_agg};
-ghost use Rattle.expr_types.specs.declared.fault.TypeError.TheVariants.{Broken, Memory as NoMemory};
+ghost use Rattle.expr_types.specs.declared.fault.TypeError.TheVariants.{Broken};
 ghost use Rattle.expr_types.specs.Known.{decl_in};
-ghost use Rattle.expr_types.specs.Judge.{Refuses};
 ghost use Rattle.expr_types.specs.Rules.{is_one_too_many, is_agg_in, is_hist_in, is_other_kind, is_other_key, has_other_keys, read_breaks, write_breaks};
 
 use crate::fault::{Fault, Rule, TypeError};
@@ -18,17 +17,6 @@ pub fn broken(rule: Rule, place: Place) -> TypeError
     ensures { result ≡ Broken (record { rule = rule; place = place }) }
 {
     TypeError::Broken(Fault { rule, place })
-}
-
-/// Goes on where no rule is broken, and otherwise answers the fault at this place.
-pub fn refuse(rule: Option<Rule>, place: Place) -> Result<(), TypeError>
-    ensures refuses { Refuses rule place result }
-    ensures not_memory { result ≢ Err NoMemory }
-{
-    match rule {
-        None => Ok(()),
-        Some(rule) => Err(broken(rule, place)),
-    }
 }
 
 /// Whether two types are one.

@@ -1,23 +1,28 @@
-use Rattle.std.proofs.Common.{◌≡◌, ◌+◌, List, map, take, sym, ap, subst, Result, Ok, Err}
+use Rattle.std.proofs.Common.{◌≡◌, ◌+◌, List, [], ◌∷◌, map, take, sym, ap, subst, Result, Ok, Err}
 use Rattle.std.proofs.lemmas.Result.{err_from_is_err_and}
 use Rattle.bt_ast.specs.declared.expr.Expr.{Expr}
 use Rattle.bt_ast.specs.declared.expr.IncDec.{out-IncDec}
 use Rattle.bt_ast.specs.declared.expr.MapRef.{out-MapRef}
 use Rattle.typed_tree.specs.declared.expr.AnyExpr.{AnyExpr}
 use Rattle.typed_tree.specs.declared.expr.NumExpr.{NumExpr}
-use Rattle.typed_tree.specs.Parts.{made_of}
+use Rattle.typed_tree.specs.Parts.{Made, made_of}
+use Rattle.bt_core.specs.Text.{short_text}
+use Rattle.bt_ast.specs.declared.expr.ExprKind.TheVariants as kinds
+use Rattle.expr_types.specs.Mentions.{Text, OfVar, OfField, NeedsShort, Args, ReadsField, ReadsVar, TextWord, BuiltinWord, FieldWord, VarWord}
 use Rattle.expr_types.specs.declared.fault.TypeError.{TypeError}
 use Rattle.expr_types.specs.declared.known.Known.{Known}
 use Rattle.expr_types.specs.declared.leaf.Joint.TheVariants.{Operator, And, Or}
 use Rattle.expr_types.specs.Joint.{joint_seen}
 use Rattle.expr_types.specs.Judge.{judged, SaysFault}
-use Rattle.expr_types.specs.Walk.{Seen, MapSeen, OnMap, points_of, of_expr, of_map, map_read, step_seen, unary_seen, choose_seen}
+use Rattle.expr_types.specs.Walk.{Seen, MapSeen, OnMap, at, seen, builtin_sort, points_of, of_expr, of_map, of_step, map_read, step_seen, unary_seen, choose_seen}
 use Rattle.expr_types.specs.Typing.{AreTyping}
 use Rattle.expr_types.specs.Checked.{Checked, Checks, ChecksNumber, AllChecked, KeyChecked}
 use Rattle.expr_types.proofs.Composing.{front_refused, later_refused, unary_checks, choose_checks}
 use Rattle.expr_types.proofs.Constructs.{joint_checks}
 use Rattle.expr_types.proofs.Keys.{key_checked}
-use Rattle.expr_types.proofs.Layers.{step_is, unary_is, binary_is, and_is, or_is, choose_is, map_is, step_of_map}
+use Rattle.expr_types.proofs.Leaves.{arm_checks, text_checks, builtin_checks}
+use Rattle.expr_types.proofs.Trees.{any_num}
+use Rattle.expr_types.proofs.Layers.{text_is, builtin_is, field_is, var_is, read_is, paren_is, step_is, unary_is, binary_is, and_is, or_is, choose_is, map_is, step_of_map}
 use Rattle.expr_types.proofs.Reading.{read_checks, step_checks}
 use Rattle.expr_types.proofs.Several.{left_refused, next_left, next_typing, next_grows}
 use Rattle.expr_types.proofs.expr.+expr.Goals as goal
@@ -203,3 +208,42 @@ check_step-returns-in_err-keyed-in-Map t c =
     let p = err_from_is_err_and c.from_residual.result c.from_residual.ensures.1 in
     subst (λ (x : Seen). ChecksNumber x c.args.known.now c.check_key.new.known c.from_residual.result) (sym (step_of_map c.args.stepped.now m c.in-Map.is))
     (handed_number (step_seen s.plus s.prefix s.place (OnMap (of_map m))) c.args.known.now _ c.from_residual.result p.0 c.in_err-keyed-in-Map.field-0.0 p.1 p.2 (front_refused (of_map m).points _ c.args.known.now _ c.in_err-keyed-in-Map.ensures))
+
+pub check_kind-returns-in-Text : goal.check_kind-returns-in-Text
+check_kind-returns-in-Text t c =
+    let s = seen (at c.args.place (NeedsShort c.in-Text.text) ∷ []) Text (TextWord (short_text c.in-Text.text) ∷ []) in
+    arm_checks c.args.kind.now (kinds.Text c.in-Text.text) s c.args.place c.args.known.now c.args.known.now c.literal.result c.in-Text.is (text_is c.in-Text.text c.args.place)
+    (text_checks c.args.known.now c.as_slice.result.now c.in-Text.text c.args.place c.literal.result c.as_slice.ensures c.literal.ensures.refuses c.literal.ensures.made)
+
+pub check_kind-returns-in-Builtin : goal.check_kind-returns-in-Builtin
+check_kind-returns-in-Builtin t c =
+    let b = c.in-Builtin.name in
+    arm_checks c.args.kind.now (kinds.Builtin b) (seen [] (builtin_sort b) (BuiltinWord b ∷ [])) c.args.place c.args.known.now c.args.known.now (Ok c.builtin.result) c.in-Builtin.is (builtin_is b c.args.place)
+    (builtin_checks c.args.known.now b c.builtin.result c.builtin.ensures)
+
+pub check_kind-returns-in-Field : goal.check_kind-returns-in-Field
+check_kind-returns-in-Field t c =
+    let name = c.in-Field.name in let word = c.in-Field.name_place in let place = c.args.place in
+    arm_checks c.args.kind.now (kinds.Field name word) (seen (at place Args ∷ at word (ReadsField name) ∷ []) (OfField name) (FieldWord name ∷ [])) place c.args.known.now c.args.known.now c.field.result
+    c.in-Field.is (field_is name word place) c.field.ensures
+
+pub check_kind-returns-in-Var : goal.check_kind-returns-in-Var
+check_kind-returns-in-Var t c =
+    let v = c.in-Var.var in
+    arm_checks c.args.kind.now (kinds.Var v) (seen (at v.place (ReadsVar v.name) ∷ []) (OfVar v.name) (VarWord v.name ∷ [])) c.args.place c.args.known.now c.args.known.now c.variable.result
+    c.in-Var.is (var_is v c.args.place) c.variable.ensures.checks
+
+pub check_kind-returns-in-Map : goal.check_kind-returns-in-Map
+check_kind-returns-in-Map t c =
+    let m = c.in-Map.map in
+    arm_checks c.args.kind.now (kinds.Map m) (map_read (of_map m)) c.args.place c.args.known.now c.check_map.new.known c.check_map.result c.in-Map.is (read_is m c.args.place) c.check_map.ensures
+
+pub check_kind-returns-in-Paren : goal.check_kind-returns-in-Paren
+check_kind-returns-in-Paren t c =
+    let e = c.in-Paren.value in
+    arm_checks c.args.kind.now (kinds.Paren e) (of_expr e) c.args.place c.args.known.now c.check_expr.new.known c.check_expr.result c.in-Paren.is (paren_is e c.args.place)
+    (subst (λ (x : Expr). Checks (of_expr x) c.args.known.now c.check_expr.new.known c.check_expr.result) c.get.ensures c.check_expr.ensures)
+
+pub check_stepped-returns : goal.check_stepped-returns
+check_stepped-returns t c =
+    subst (λ (m : Made). Checked (of_step c.args.stepped.now) c.args.known.now c.check_step.new.known m) (sym (any_num c.in_ok-number.number)) c.in_ok-number.ensures

@@ -12,6 +12,6 @@ fine : (k : Known) (name other : List ℕ) (kind : MapKind) (shapes others : Lis
     → is_fine_decl (record { name = name; kind = kind; key_shape = shapes }) ≡ true
 fine k name other kind shapes others breaks e f h g is = subst (λ (s : List Shape). is_fine_decl (record { name = name; kind = kind; key_shape = s }) ≡ true) f (write_fine k other kind others is (sym h ∙ g))
 
-pub decide-requires : goal.decide-requires
-decide-requires c =
-    fine c.args.known.now c.args.name.now c.as_slice.result.now c.args.kind c.args.shapes c.as_slice-2.result.now c.write_breaks.result c.as_slice.ensures c.as_slice-2.ensures c.write_breaks.ensures c.in_ok-refuse.ensures.refuses c.requires
+pub settle-requires : goal.settle-requires
+settle-requires c =
+    fine c.args.known.now c.args.name.now c.as_slice.result.now c.args.kind c.args.shapes c.as_slice-2.result.now c.write_breaks.result c.as_slice.ensures c.as_slice-2.ensures c.write_breaks.ensures c.in-None.is c.requires

@@ -1,0 +1,22 @@
+use Rattle.std.proofs.Common.{◌≡◌, ◌∷◌, ◌++◌, ap, sym}
+use Rattle.bt_core.specs.declared.map.Shape.TheVariants.{Str}
+use Rattle.typed_tree.specs.Parts.{Made, made, made_of, num_parts, str_parts, Chosen}
+use Rattle.expr_types.specs.Join.{same_breaks}
+use Rattle.expr_types.proofs.Trees.{num_given, str_given}
+use Rattle.expr_types.proofs.Operands.{made_refuses, made_is, wrong_refuses, nothing_made}
+use Rattle.expr_types.proofs.leaf.choose_string.Goals as goal
+
+pub returns-in-Str-clause-refuses : goal.returns-in-Str-clause-refuses
+returns-in-Str-clause-refuses c = made_refuses (same_breaks Str (made_of c.args.no).shape) c.args.place (made Str (Chosen ∷ (num_parts c.args.condition ++ (str_parts c.args.yes ++ str_parts c.in-Str.no)))) c.chosen_string.result
+    (ap (λ (m : Made). same_breaks Str m.shape) (str_given c.args.no c.in-Str.no c.in-Str.is)) c.chosen_string.ensures
+
+pub returns-in-Str-clause-made : goal.returns-in-Str-clause-made
+returns-in-Str-clause-made c = made_is (made Str (Chosen ∷ (num_parts c.args.condition ++ (str_parts c.args.yes ++ str_parts c.in-Str.no)))) (made Str (Chosen ∷ (num_parts c.args.condition ++ (str_parts c.args.yes ++ (made_of c.args.no).parts)))) c.chosen_string.result
+    (ap (λ (m : Made). made Str (Chosen ∷ (num_parts c.args.condition ++ (str_parts c.args.yes ++ m.parts)))) (sym (str_given c.args.no c.in-Str.no c.in-Str.is))) c.chosen_string.ensures
+
+pub returns-in-Num-clause-refuses : goal.returns-in-Num-clause-refuses
+returns-in-Num-clause-refuses c = wrong_refuses (same_breaks Str (made_of c.args.no).shape) c.args.place c.refused.result
+    (ap (λ (m : Made). same_breaks Str m.shape) (num_given c.args.no c.in-Num.number c.in-Num.is)) c.refused.ensures
+
+pub returns-in-Num-clause-made : goal.returns-in-Num-clause-made
+returns-in-Num-clause-made c = nothing_made (λ e. made_of e ≡ made Str (Chosen ∷ (num_parts c.args.condition ++ (str_parts c.args.yes ++ (made_of c.args.no).parts)))) _ c.refused.result c.refused.ensures
