@@ -1,5 +1,6 @@
 -- What was done of one thing after another.
 use Rattle.std.proofs.Common.{◌≡◌, ℤ, List, refl, sym, ap, ◌∙◌, subst, Bool, true, false, Ok, Err, Result, SFits, to_z, of_z, w64}
+use Rattle.std.specs.Prelude.{MatchResult}
 use Rattle.std.proofs.lemmas.Int.{to_z-of_z}
 use Rattle.bt_core.specs.declared.memory.Memory.{Memory}
 use Rattle.bt_core.specs.declared.step.Step.{Step}
@@ -20,6 +21,10 @@ Looked-done {A} look a scene frame s e = Whole-Ended _ _ _ (ap (λ (x : A). (x, 
 pub Changed-done : (change : Frame → Frame) (scene : BodyScene) (frame after : Frame) (s : List Step) (u : Unit {0}) → change frame ≡ after → Whole (changed change scene frame) s s (u, after)
 unfolding changed
 Changed-done change scene frame after s u e = Whole-Ended _ _ _ (ap (λ (x : Frame). (tt, x)) e)
+
+-- an error leaves the first steps done
+pub Stopped : {A E : Type 0} (Q : A → Type 0) (P : Type 0) (r : Result A E) (x : E) → r ≡ Err x → P → MatchResult r Q (λ _. P)
+Stopped {A} {E} Q P r x is p = subst (λ (o : Result A E). MatchResult o Q (λ _. P)) (sym is) p
 
 pub Part-none : {A : Type 0} (d : Does A) (scene : BodyScene) (frame : Frame) (old new : List Step) → new ≡ old → Part (d scene frame) old new
 Part-none d scene frame old new e = Performed-none _ _ _ e

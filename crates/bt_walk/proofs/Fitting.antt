@@ -12,7 +12,18 @@ use Rattle.typed_tree.specs.declared.expr.StrExpr.TheVariants as strs
 use Rattle.typed_tree.specs.Parts.{TreePart, Made, any_layer, num_layer, str_layer, num_parts, str_parts, Prefixed, Joined, Both, Either, Chosen, compared}
 use Rattle.typed_tree.specs.Scope.{fits, all_fit}
 use Rattle.walk_meaning.specs.declared.view.View.{View}
-use Rattle.walk_meaning.specs.Served.{Fits, scope_in}
+use Rattle.walk_meaning.specs.Served.{Fits, IsServed, scope_in}
+use Rattle.bt_core.specs.Ports.{Fixed}
+
+pub num_same : (v : View) (x y : NumExpr) → x ≡ y → Fits v (num_parts y) → Fits v (num_parts x)
+num_same v x y is fit = subst (λ (e : NumExpr). Fits v (num_parts e)) (sym is) fit
+
+pub str_same : (v : View) (x y : StrExpr) → x ≡ y → Fits v (str_parts y) → Fits v (str_parts x)
+str_same v x y is fit = subst (λ (e : StrExpr). Fits v (str_parts e)) (sym is) fit
+
+-- what serves a view serves it as long as it stays the same
+pub served_still : {H : Type 0} (v : View) (before now : Fixed H) → now ≡ before → IsServed v before.setting → IsServed v now.setting
+served_still {H} v before now is served = subst (λ (f : Fixed H). IsServed v f.setting) (sym is) served
 
 pub behind : (v : View) (p : TreePart) (a all : List TreePart) → all ≡ p ∷ a → Fits v all → Fits v a
 behind v p a all is fit = (and_parts (fits (scope_in v) p) (all_fit (scope_in v) a) (subst (λ (l : List TreePart). all_fit (scope_in v) l ≡ true) is fit)).1

@@ -3,12 +3,13 @@ use Rattle.std.proofs.lemmas.Result.{err_from_is_err_and}
 use Rattle.bt_core.proofs.InteractionLaws.{Performed-none}
 use Rattle.walk_meaning.specs.Walk.{first_frame}
 use Rattle.bt_walk.proofs.Bodies.{body_begun, body_done, tree_fits}
+use Rattle.bt_walk.proofs.Binds.{Stopped}
 use Rattle.bt_walk.proofs.body.walk_body.Goals as goal
 
 pub returns-in_err-frame-clause-performed : goal.returns-in_err-frame-clause-performed
 returns-in_err-frame-clause-performed g c =
     let p = err_from_is_err_and c.from_residual.result c.from_residual.ensures.1 in
-    rw p.1 (Performed-none _ _ _ refl)
+    Stopped _ _ _ _ p.1 (Performed-none _ _ _ refl)
 
 pub walk_guarded-requires-clause-served : goal.walk_guarded-requires-clause-served
 walk_guarded-requires-clause-served g c = record { can = c.requires; fine = c.args.body.now.fine }
@@ -22,7 +23,7 @@ walk_guarded-requires-clause-fits g c = (false, (tree_fits c.args.body.now).1)
 pub returns-in_err-flow-clause-performed : goal.returns-in_err-flow-clause-performed
 returns-in_err-flow-clause-performed g c =
     let p = err_from_is_err_and c.from_residual-in_err-flow.result c.from_residual-in_err-flow.ensures.1 in
-    rw p.1 (body_begun c.args.body.now c.args.context.now c.args.payload.now c.args.actor c.args.actors _ _ _ (c.in_ok-frame.ensures ∙ ap first_frame c.as_slice.ensures) c.in_err-flow.ensures.walked)
+    Stopped _ _ _ _ p.1 (body_begun c.args.body.now c.args.context.now c.args.payload.now c.args.actor c.args.actors _ _ _ (c.in_ok-frame.ensures ∙ ap first_frame c.as_slice.ensures) c.in_err-flow.ensures.walked)
 
 pub returns-clause-performed : goal.returns-clause-performed
 returns-clause-performed g c =

@@ -2,7 +2,7 @@ use Rattle.std.proofs.Common.{refl}
 use Rattle.std.proofs.lemmas.Result.{err_from_is_err_and}
 use Rattle.typed_tree.specs.Parts.{key_shapes}
 use Rattle.walk_meaning.specs.Served.{all_made}
-use Rattle.bt_walk.proofs.Binds.{Part-first, Part-next, Whole-next, Given-done}
+use Rattle.bt_walk.proofs.Binds.{Part-first, Part-next, Whole-next, Given-done, Stopped}
 use Rattle.walk_meaning.proofs.Declared.{shared, delete_can}
 use Rattle.walk_meaning.proofs.TreeParts.{delete_head}
 use Rattle.bt_walk.proofs.stmt.delete_at.Goals as goal
@@ -14,7 +14,7 @@ key-requires-clause-few g c =
 pub returns-in_err-key-clause-walked : goal.returns-in_err-key-clause-walked
 returns-in_err-key-clause-walked g c =
     let p = err_from_is_err_and c.from_residual.result c.from_residual.ensures.1 in
-    rw p.1 (Part-first _ _ _ _ _ _ c.in_err-key.ensures.walked)
+    Stopped _ _ _ _ p.1 (Part-first _ _ _ _ _ _ c.in_err-key.ensures.walked)
 
 pub delete-requires : goal.delete-requires
 delete-requires g c =
@@ -24,7 +24,7 @@ delete-requires g c =
 pub returns-in_err-delete-clause-walked : goal.returns-in_err-delete-clause-walked
 returns-in_err-delete-clause-walked g c =
     let p = err_from_is_err_and c.from_residual-in_err-delete.result c.from_residual-in_err-delete.ensures.1 in
-    rw p.1 (Part-next _ _ _ _ _ _ _ _ c.in_ok-key.ensures.walked _ (Part-first _ _ _ _ _ _ (c.in_err-delete.ensures.made _ _)))
+    Stopped _ _ _ _ p.1 (Part-next _ _ _ _ _ _ _ _ c.in_ok-key.ensures.walked _ (Part-first _ _ _ _ _ _ (c.in_err-delete.ensures.made _ _)))
 
 pub returns-clause-walked : goal.returns-clause-walked
 returns-clause-walked g c = (Whole-next _ _ _ _ _ _ _ _ c.in_ok-key.ensures.walked _ _ (Whole-next _ _ _ _ _ _ _ _ (c.in_ok-delete.ensures.made _ _) _ _ (Given-done _ _ _ _ _ _ refl refl)))

@@ -3,7 +3,7 @@ use Rattle.std.proofs.lemmas.Int.{to_z-of_z}
 use Rattle.std.proofs.lemmas.Result.{err_from_is_err_and}
 use Rattle.typed_tree.specs.Parts.{key_shapes}
 use Rattle.walk_meaning.specs.Served.{all_made}
-use Rattle.bt_walk.proofs.Binds.{Part-first, Part-next, Whole-next, Given-done, Lifted-done, Lifted-begun}
+use Rattle.bt_walk.proofs.Binds.{Part-first, Part-next, Whole-next, Given-done, Lifted-done, Lifted-begun, Stopped}
 use Rattle.walk_meaning.proofs.Declared.{gathering, add_can}
 use Rattle.walk_meaning.proofs.TreeParts.{gather_head}
 use Rattle.bt_walk.proofs.Statements.{gather_split}
@@ -16,12 +16,12 @@ key-requires-clause-few g c =
 pub returns-in_err-key-clause-walked : goal.returns-in_err-key-clause-walked
 returns-in_err-key-clause-walked g c =
     let p = err_from_is_err_and c.from_residual.result c.from_residual.ensures.1 in
-    rw p.1 (Part-first _ _ _ _ _ _ c.in_err-key.ensures.walked)
+    Stopped _ _ _ _ p.1 (Part-first _ _ _ _ _ _ c.in_err-key.ensures.walked)
 
 pub returns-in_err-n-clause-walked : goal.returns-in_err-n-clause-walked
 returns-in_err-n-clause-walked g c =
     let p = err_from_is_err_and c.from_residual-in_err-n.result c.from_residual-in_err-n.ensures.1 in
-    rw p.1 (Part-next _ _ _ _ _ _ _ _ c.in_ok-key.ensures.walked _ (Part-first _ _ _ _ _ _ c.in_err-n.ensures.walked))
+    Stopped _ _ _ _ p.1 (Part-next _ _ _ _ _ _ _ _ c.in_ok-key.ensures.walked _ (Part-first _ _ _ _ _ _ c.in_err-n.ensures.walked))
 
 pub tell-requires : goal.tell-requires
 tell-requires g c =
@@ -33,7 +33,7 @@ returns-in_err-tell-clause-walked g c =
     let p = err_from_is_err_and c.from_residual-in_err-tell.result c.from_residual-in_err-tell.ensures.1 in
     let fn : SFits w64 c.in_ok-n.n = search rules in
     let told = simp to_z-of_z at c.in_err-tell.ensures.performed in
-    rw p.1 (Part-next _ _ _ _ _ _ _ _ c.in_ok-key.ensures.walked _ (Part-next _ _ _ _ _ _ _ _ c.in_ok-n.ensures.walked _ (Part-first _ _ _ _ _ _ (Lifted-begun _ _ _ _ _ told))))
+    Stopped _ _ _ _ p.1 (Part-next _ _ _ _ _ _ _ _ c.in_ok-key.ensures.walked _ (Part-next _ _ _ _ _ _ _ _ c.in_ok-n.ensures.walked _ (Part-first _ _ _ _ _ _ (Lifted-begun _ _ _ _ _ told))))
 
 pub returns-clause-walked : goal.returns-clause-walked
 returns-clause-walked g c =

@@ -1,12 +1,13 @@
 use Rattle.std.proofs.Common.{◌≤◌, length, arith}
 use Rattle.std.proofs.lemmas.Result.{err_from_is_err_and}
 use Rattle.walk_meaning.proofs.Declared.{HasShape-length}
+use Rattle.bt_walk.proofs.Binds.{Stopped}
 use Rattle.bt_walk.proofs.stmt.key.Goals as goal
 
 pub returns-in_err-parts-clause-walked : goal.returns-in_err-parts-clause-walked
 returns-in_err-parts-clause-walked g c =
     let p = err_from_is_err_and c.from_residual.result c.from_residual.ensures.1 in
-    rw p.1 c.in_err-parts.ensures.walked
+    Stopped _ _ _ _ p.1 c.in_err-parts.ensures.walked
 
 pub of-requires : goal.of-requires
 of-requires g c =

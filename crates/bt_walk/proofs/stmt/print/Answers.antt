@@ -4,7 +4,7 @@ use Rattle.std.proofs.lemmas.Result.{err_from_is_err_and}
 use Rattle.bt_core.specs.declared.map.MapKind.{MapKind}
 use Rattle.map_ops.specs.Asking.{printed}
 use Rattle.walk_meaning.specs.Maps.{kind_in_body}
-use Rattle.bt_walk.proofs.Binds.{Part-first, Whole-next, Given-done, Asked-done, Asked-begun}
+use Rattle.bt_walk.proofs.Binds.{Part-first, Whole-next, Given-done, Asked-done, Asked-begun, Stopped}
 use Rattle.walk_meaning.proofs.Declared.{sweep_can}
 use Rattle.bt_walk.proofs.stmt.print.Goals as goal
 
@@ -20,7 +20,7 @@ returns-in_err-print_map-clause-walked g c frame =
     let fd : SFits w64 c.args.div = search rules in
     let shown = simp to_z-of_z at c.in_err-print_map.ensures.performed in
     let same = ap (λ (k : MapKind). printed k c.args.map c.args.top c.args.div c.args.view.now.actors) kind in
-    rw p.1 (Part-first _ _ _ _ _ _ (Asked-begun _ _ _ _ _ _ same shown))
+    Stopped _ _ _ _ p.1 (Part-first _ _ _ _ _ _ (Asked-begun _ _ _ _ _ _ same shown))
 
 pub returns-clause-walked : goal.returns-clause-walked
 returns-clause-walked g c frame =

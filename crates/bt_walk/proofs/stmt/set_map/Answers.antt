@@ -2,7 +2,7 @@ use Rattle.std.proofs.Common.{refl}
 use Rattle.std.proofs.lemmas.Result.{err_from_is_err_and}
 use Rattle.typed_tree.specs.Parts.{made_of, key_shapes}
 use Rattle.walk_meaning.specs.Served.{all_made}
-use Rattle.bt_walk.proofs.Binds.{Part-first, Part-next, Whole-next, Given-done}
+use Rattle.bt_walk.proofs.Binds.{Part-first, Part-next, Whole-next, Given-done, Stopped}
 use Rattle.walk_meaning.proofs.Declared.{valued, set_can}
 use Rattle.walk_meaning.proofs.TreeParts.{set_head}
 use Rattle.bt_walk.proofs.Statements.{set_split}
@@ -15,12 +15,12 @@ key-requires-clause-few g c =
 pub returns-in_err-key-clause-walked : goal.returns-in_err-key-clause-walked
 returns-in_err-key-clause-walked g c =
     let p = err_from_is_err_and c.from_residual.result c.from_residual.ensures.1 in
-    rw p.1 (Part-first _ _ _ _ _ _ c.in_err-key.ensures.walked)
+    Stopped _ _ _ _ p.1 (Part-first _ _ _ _ _ _ c.in_err-key.ensures.walked)
 
 pub returns-in_err-value-clause-walked : goal.returns-in_err-value-clause-walked
 returns-in_err-value-clause-walked g c =
     let p = err_from_is_err_and c.from_residual-in_err-value.result c.from_residual-in_err-value.ensures.1 in
-    rw p.1 (Part-next _ _ _ _ _ _ _ _ c.in_ok-key.ensures.walked _ (Part-first _ _ _ _ _ _ c.in_err-value.ensures.walked))
+    Stopped _ _ _ _ p.1 (Part-next _ _ _ _ _ _ _ _ c.in_ok-key.ensures.walked _ (Part-first _ _ _ _ _ _ c.in_err-value.ensures.walked))
 
 pub set-requires : goal.set-requires
 set-requires g c =
@@ -30,7 +30,7 @@ set-requires g c =
 pub returns-in_err-set-clause-walked : goal.returns-in_err-set-clause-walked
 returns-in_err-set-clause-walked g c =
     let p = err_from_is_err_and c.from_residual-in_err-set.result c.from_residual-in_err-set.ensures.1 in
-    rw p.1 (Part-next _ _ _ _ _ _ _ _ c.in_ok-key.ensures.walked _ (Part-next _ _ _ _ _ _ _ _ c.in_ok-value.ensures.walked _ (Part-first _ _ _ _ _ _ (c.in_err-set.ensures.made _ _))))
+    Stopped _ _ _ _ p.1 (Part-next _ _ _ _ _ _ _ _ c.in_ok-key.ensures.walked _ (Part-next _ _ _ _ _ _ _ _ c.in_ok-value.ensures.walked _ (Part-first _ _ _ _ _ _ (c.in_err-set.ensures.made _ _))))
 
 pub returns-clause-walked : goal.returns-clause-walked
 returns-clause-walked g c = (Whole-next _ _ _ _ _ _ _ _ c.in_ok-key.ensures.walked _ _ (Whole-next _ _ _ _ _ _ _ _ c.in_ok-value.ensures.walked _ _ (Whole-next _ _ _ _ _ _ _ _ (c.in_ok-set.ensures.made _ _) _ _ (Given-done _ _ _ _ _ _ refl refl))))

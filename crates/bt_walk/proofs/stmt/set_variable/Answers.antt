@@ -1,12 +1,12 @@
 use Rattle.std.proofs.Common.{refl, sym}
 use Rattle.std.proofs.lemmas.Result.{err_from_is_err_and}
-use Rattle.bt_walk.proofs.Binds.{Part-first, Whole-next, Given-done, Changed-done}
+use Rattle.bt_walk.proofs.Binds.{Part-first, Whole-next, Given-done, Changed-done, Stopped}
 use Rattle.bt_walk.proofs.stmt.set_variable.Goals as goal
 
 pub returns-in_err-value-clause-walked : goal.returns-in_err-value-clause-walked
 returns-in_err-value-clause-walked g c =
     let p = err_from_is_err_and c.from_residual.result c.from_residual.ensures.1 in
-    rw p.1 (Part-first _ _ _ _ _ _ c.in_err-value.ensures.walked)
+    Stopped _ _ _ _ p.1 (Part-first _ _ _ _ _ _ c.in_err-value.ensures.walked)
 
 pub returns-clause-walked : goal.returns-clause-walked
 returns-clause-walked g c = (Whole-next _ _ _ _ _ _ _ _ c.in_ok-value.ensures.walked _ _ (Whole-next _ _ _ _ _ _ _ _ (Changed-done _ _ _ _ _ tt (sym c.assign.ensures)) _ _ (Given-done _ _ _ _ _ _ refl refl)))

@@ -4,7 +4,7 @@ use Rattle.std.proofs.lemmas.Result.{err_from_is_err_and}
 use Rattle.bt_core.specs.declared.map.Shape.TheVariants as shapes
 use Rattle.typed_tree.specs.Parts.{num_parts, key_shapes}
 use Rattle.walk_meaning.specs.Served.{all_made}
-use Rattle.bt_walk.proofs.Binds.{Part-first, Part-next, Walked-next}
+use Rattle.bt_walk.proofs.Binds.{Part-first, Part-next, Walked-next, Stopped}
 use Rattle.walk_meaning.proofs.Declared.{valued, held}
 use Rattle.walk_meaning.proofs.TreeParts.{update_head}
 use Rattle.bt_walk.proofs.Statements.{update_split}
@@ -17,12 +17,12 @@ key-requires-clause-few g c =
 pub returns-in_err-key-clause-walked : goal.returns-in_err-key-clause-walked
 returns-in_err-key-clause-walked g c =
     let p = err_from_is_err_and c.from_residual.result c.from_residual.ensures.1 in
-    rw p.1 (Part-first _ _ _ _ _ _ c.in_err-key.ensures.walked)
+    Stopped _ _ _ _ p.1 (Part-first _ _ _ _ _ _ c.in_err-key.ensures.walked)
 
 pub returns-in_err-b-clause-walked : goal.returns-in_err-b-clause-walked
 returns-in_err-b-clause-walked g c =
     let p = err_from_is_err_and c.from_residual-in_err-b.result c.from_residual-in_err-b.ensures.1 in
-    rw p.1 (Part-next _ _ _ _ _ _ _ _ c.in_ok-key.ensures.walked _ (Part-first _ _ _ _ _ _ c.in_err-b.ensures.walked))
+    Stopped _ _ _ _ p.1 (Part-next _ _ _ _ _ _ _ _ c.in_ok-key.ensures.walked _ (Part-first _ _ _ _ _ _ c.in_err-b.ensures.walked))
 
 pub update_at-requires : goal.update_at-requires
 update_at-requires g c =

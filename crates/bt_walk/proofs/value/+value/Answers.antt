@@ -6,9 +6,9 @@ use Rattle.bt_core.specs.declared.value.Value.TheVariants.{Int}
 use Rattle.bt_core.specs.Arithmetic.{truth}
 use Rattle.typed_tree.specs.Parts.{made_of, key_shapes}
 use Rattle.typed_tree.specs.Scope.{decl_of}
-use Rattle.map_ops.specs.Values.{number_of, text_of}
+use Rattle.map_ops.specs.Values.{number_of, text_of, holds}
 use Rattle.walk_meaning.specs.Served.{Fits, IsServed, all_made}
-use Rattle.bt_walk.proofs.Binds.{Part-first, Part-next, Whole-next, Walked-next, Given-done, Looked-done, Changed-done, Number-done, Number-seen, Whole-yes, Whole-no, Part-yes, Part-no, Walked-yes, Walked-no, Lifted-walked}
+use Rattle.bt_walk.proofs.Binds.{Part-first, Part-next, Whole-next, Walked-next, Given-done, Looked-done, Changed-done, Number-done, Number-seen, Whole-yes, Whole-no, Part-yes, Part-no, Walked-yes, Walked-no, Lifted-walked, Stopped}
 use Rattle.map_ops.proofs.PartLaws.{part_below}
 use Rattle.walk_meaning.proofs.Declared.{shared, summing, summed_here, valued, few_values, keyed, held, field_inside}
 use Rattle.typed_tree.proofs.Summed.{summed_there}
@@ -18,7 +18,7 @@ use denote.Param.Weighed.{most}
 use Rattle.bt_walk.proofs.Gathers.{gathers-start, gathers-stop, gathers-next, gathers-drop, gathers-end, shapes-next}
 use Rattle.walk_meaning.proofs.ExprDoes as does
 use Rattle.bt_walk.proofs.WalkedAs as told
-use Rattle.bt_walk.proofs.Fitting.{unary_fits, binary_fits, compare_fits, and_fits, or_fits, choose_fits, choose_text_fits}
+use Rattle.bt_walk.proofs.Fitting.{unary_fits, binary_fits, compare_fits, and_fits, or_fits, choose_fits, choose_text_fits, num_same, str_same, served_still}
 use Rattle.typed_tree.specs.declared.expr.NumExpr as nums
 use Rattle.typed_tree.specs.declared.expr.StrExpr as strs
 use Rattle.bt_walk.proofs.value.+value.Goals as goal
@@ -31,12 +31,12 @@ number-int_field-requires-clause-inside g t c =
 pub number-returns-in_err-read-in-Map-clause-walked : goal.number-returns-in_err-read-in-Map-clause-walked
 number-returns-in_err-read-in-Map-clause-walked g t c =
     let p = err_from_is_err_and c.from_residual.result c.from_residual.ensures.1 in
-    rw p.1 (told.Part-num _ _ _ _ _ _ (does.map_num _ _ _ _ c.in-Map.is c.as_slice.ensures) (Part-first _ _ _ _ _ _ c.in_err-read-in-Map.ensures.walked))
+    Stopped _ _ _ _ p.1 (told.Part-num _ _ _ _ _ _ (does.map_num _ _ _ _ c.in-Map.is c.as_slice.ensures) (Part-first _ _ _ _ _ _ c.in_err-read-in-Map.ensures.walked))
 
 pub number-returns-in_err-parts-in-StepMap-clause-walked : goal.number-returns-in_err-parts-in-StepMap-clause-walked
 number-returns-in_err-parts-in-StepMap-clause-walked g t c =
     let p = err_from_is_err_and c.from_residual-in_err-parts-in-StepMap.result c.from_residual-in_err-parts-in-StepMap.ensures.1 in
-    rw p.1 (told.Part-num _ _ _ _ _ _ (does.stepmap_num _ _ _ _ _ _ c.in-StepMap.is c.as_slice-in-StepMap.ensures) (Part-first _ _ _ _ _ _ c.in_err-parts-in-StepMap.ensures.walked))
+    Stopped _ _ _ _ p.1 (told.Part-num _ _ _ _ _ _ (does.stepmap_num _ _ _ _ _ _ c.in-StepMap.is c.as_slice-in-StepMap.ensures) (Part-first _ _ _ _ _ _ c.in_err-parts-in-StepMap.ensures.walked))
 
 pub number-of-key-requires : goal.number-of-key-requires
 number-of-key-requires g t c =
@@ -53,58 +53,58 @@ number-step_map-requires g t c =
 pub number-returns-in_err-a-in-Unary-clause-walked : goal.number-returns-in_err-a-in-Unary-clause-walked
 number-returns-in_err-a-in-Unary-clause-walked g t c =
     let p = err_from_is_err_and c.from_residual-in_err-a-in-Unary.result c.from_residual-in_err-a-in-Unary.ensures.1 in
-    rw p.1 (told.Part-num _ _ _ _ _ _ (does.unary_num _ _ _ _ c.in-Unary.is c.get.ensures) (Part-first _ _ _ _ _ _ c.in_err-a-in-Unary.ensures.walked))
+    Stopped _ _ _ _ p.1 (told.Part-num _ _ _ _ _ _ (does.unary_num _ _ _ _ c.in-Unary.is c.get.ensures) (Part-first _ _ _ _ _ _ c.in_err-a-in-Unary.ensures.walked))
 
 pub number-returns-in_err-a-in-Binary-clause-walked : goal.number-returns-in_err-a-in-Binary-clause-walked
 number-returns-in_err-a-in-Binary-clause-walked g t c =
     let p = err_from_is_err_and c.from_residual-in_err-a-in-Binary.result c.from_residual-in_err-a-in-Binary.ensures.1 in
-    rw p.1 (told.Part-num _ _ _ _ _ _ (does.binary_num _ _ _ _ _ _ c.in-Binary.is c.get-in-Binary.ensures refl) (Part-first _ _ _ _ _ _ c.in_err-a-in-Binary.ensures.walked))
+    Stopped _ _ _ _ p.1 (told.Part-num _ _ _ _ _ _ (does.binary_num _ _ _ _ _ _ c.in-Binary.is c.get-in-Binary.ensures refl) (Part-first _ _ _ _ _ _ c.in_err-a-in-Binary.ensures.walked))
 
 pub number-returns-in_err-b-in-Binary-clause-walked : goal.number-returns-in_err-b-in-Binary-clause-walked
 number-returns-in_err-b-in-Binary-clause-walked g t c =
     let p = err_from_is_err_and c.from_residual-in_err-b-in-Binary.result c.from_residual-in_err-b-in-Binary.ensures.1 in
-    rw p.1 (told.Part-num _ _ _ _ _ _ (does.binary_num _ _ _ _ _ _ c.in-Binary.is c.get-in-Binary.ensures (c.get-in-Binary-2).ensures) (Part-next _ _ _ _ _ _ _ _ c.in_ok-a-in-Binary.ensures.walked _ (Part-first _ _ _ _ _ _ c.in_err-b-in-Binary.ensures.walked)))
+    Stopped _ _ _ _ p.1 (told.Part-num _ _ _ _ _ _ (does.binary_num _ _ _ _ _ _ c.in-Binary.is c.get-in-Binary.ensures (c.get-in-Binary-2).ensures) (Part-next _ _ _ _ _ _ _ _ c.in_ok-a-in-Binary.ensures.walked _ (Part-first _ _ _ _ _ _ c.in_err-b-in-Binary.ensures.walked)))
 
 pub number-returns-in_err-a-in-Compare-clause-walked : goal.number-returns-in_err-a-in-Compare-clause-walked
 number-returns-in_err-a-in-Compare-clause-walked g t c =
     let p = err_from_is_err_and c.from_residual-in_err-a-in-Compare.result c.from_residual-in_err-a-in-Compare.ensures.1 in
-    rw p.1 (told.Part-num _ _ _ _ _ _ (does.compare_num _ _ _ _ _ _ c.in-Compare.is c.get-in-Compare.ensures refl) (Part-first _ _ _ _ _ _ c.in_err-a-in-Compare.ensures.walked))
+    Stopped _ _ _ _ p.1 (told.Part-num _ _ _ _ _ _ (does.compare_num _ _ _ _ _ _ c.in-Compare.is c.get-in-Compare.ensures refl) (Part-first _ _ _ _ _ _ c.in_err-a-in-Compare.ensures.walked))
 
 pub number-returns-in_err-b-in-Compare-clause-walked : goal.number-returns-in_err-b-in-Compare-clause-walked
 number-returns-in_err-b-in-Compare-clause-walked g t c =
     let p = err_from_is_err_and c.from_residual-in_err-b-in-Compare.result c.from_residual-in_err-b-in-Compare.ensures.1 in
-    rw p.1 (told.Part-num _ _ _ _ _ _ (does.compare_num _ _ _ _ _ _ c.in-Compare.is c.get-in-Compare.ensures (c.get-in-Compare-2).ensures) (Part-next _ _ _ _ _ _ _ _ c.in_ok-a-in-Compare.ensures.walked _ (Part-first _ _ _ _ _ _ c.in_err-b-in-Compare.ensures.walked)))
+    Stopped _ _ _ _ p.1 (told.Part-num _ _ _ _ _ _ (does.compare_num _ _ _ _ _ _ c.in-Compare.is c.get-in-Compare.ensures (c.get-in-Compare-2).ensures) (Part-next _ _ _ _ _ _ _ _ c.in_ok-a-in-Compare.ensures.walked _ (Part-first _ _ _ _ _ _ c.in_err-b-in-Compare.ensures.walked)))
 
 pub number-returns-in_err-a-in-AndThen-clause-walked : goal.number-returns-in_err-a-in-AndThen-clause-walked
 number-returns-in_err-a-in-AndThen-clause-walked g t c =
     let p = err_from_is_err_and c.from_residual-in_err-a-in-AndThen.result c.from_residual-in_err-a-in-AndThen.ensures.1 in
-    rw p.1 (told.Part-num _ _ _ _ _ _ (does.andthen_num _ _ _ _ _ c.in-AndThen.is c.get-in-AndThen.ensures refl) (Part-first _ _ _ _ _ _ c.in_err-a-in-AndThen.ensures.walked))
+    Stopped _ _ _ _ p.1 (told.Part-num _ _ _ _ _ _ (does.andthen_num _ _ _ _ _ c.in-AndThen.is c.get-in-AndThen.ensures refl) (Part-first _ _ _ _ _ _ c.in_err-a-in-AndThen.ensures.walked))
 
 pub number-returns-in_err-b-in-AndThen-clause-walked : goal.number-returns-in_err-b-in-AndThen-clause-walked
 number-returns-in_err-b-in-AndThen-clause-walked g t c =
     let p = err_from_is_err_and c.from_residual-in_err-b-in-AndThen.result c.from_residual-in_err-b-in-AndThen.ensures.1 in
     let tested : SFits w64 c.in_ok-a-in-AndThen.a = search rules in
-    let test = simp to_z-of_z at c.holds.ensures in
+    let test = c.holds.ensures ∙ ap holds (to_z-of_z w64 c.in_ok-a-in-AndThen.a tested) in
     let e = sym test ∙ c.if-holds.true in
-    rw p.1 (told.Part-num _ _ _ _ _ _ (does.andthen_num _ _ _ _ _ c.in-AndThen.is c.get-in-AndThen.ensures c.get-then-holds.ensures) (Part-next _ _ _ _ _ _ _ _ c.in_ok-a-in-AndThen.ensures.walked _ (Part-yes _ _ _ _ _ _ _ e (Part-first _ _ _ _ _ _ c.in_err-b-in-AndThen.ensures.walked))))
+    Stopped _ _ _ _ p.1 (told.Part-num _ _ _ _ _ _ (does.andthen_num _ _ _ _ _ c.in-AndThen.is c.get-in-AndThen.ensures c.get-then-holds.ensures) (Part-next _ _ _ _ _ _ _ _ c.in_ok-a-in-AndThen.ensures.walked _ (Part-yes _ _ _ _ _ _ _ e (Part-first _ _ _ _ _ _ c.in_err-b-in-AndThen.ensures.walked))))
 
 pub number-returns-in_err-a-in-OrElse-clause-walked : goal.number-returns-in_err-a-in-OrElse-clause-walked
 number-returns-in_err-a-in-OrElse-clause-walked g t c =
     let p = err_from_is_err_and c.from_residual-in_err-a-in-OrElse.result c.from_residual-in_err-a-in-OrElse.ensures.1 in
-    rw p.1 (told.Part-num _ _ _ _ _ _ (does.orelse_num _ _ _ _ _ c.in-OrElse.is c.get-in-OrElse.ensures refl) (Part-first _ _ _ _ _ _ c.in_err-a-in-OrElse.ensures.walked))
+    Stopped _ _ _ _ p.1 (told.Part-num _ _ _ _ _ _ (does.orelse_num _ _ _ _ _ c.in-OrElse.is c.get-in-OrElse.ensures refl) (Part-first _ _ _ _ _ _ c.in_err-a-in-OrElse.ensures.walked))
 
 pub number-returns-in_err-b-in-OrElse-clause-walked : goal.number-returns-in_err-b-in-OrElse-clause-walked
 number-returns-in_err-b-in-OrElse-clause-walked g t c =
     let p = err_from_is_err_and c.from_residual-in_err-b-in-OrElse.result c.from_residual-in_err-b-in-OrElse.ensures.1 in
     let tested : SFits w64 c.in_ok-a-in-OrElse.a = search rules in
-    let test = simp to_z-of_z at c.holds-in-OrElse.ensures in
+    let test = c.holds-in-OrElse.ensures ∙ ap holds (to_z-of_z w64 c.in_ok-a-in-OrElse.a tested) in
     let e = sym test ∙ (c.if-holds-2).false in
-    rw p.1 (told.Part-num _ _ _ _ _ _ (does.orelse_num _ _ _ _ _ c.in-OrElse.is c.get-in-OrElse.ensures (c.get-else-holds-2).ensures) (Part-next _ _ _ _ _ _ _ _ c.in_ok-a-in-OrElse.ensures.walked _ (Part-no _ _ _ _ _ _ _ e (Part-first _ _ _ _ _ _ c.in_err-b-in-OrElse.ensures.walked))))
+    Stopped _ _ _ _ p.1 (told.Part-num _ _ _ _ _ _ (does.orelse_num _ _ _ _ _ c.in-OrElse.is c.get-in-OrElse.ensures (c.get-else-holds-2).ensures) (Part-next _ _ _ _ _ _ _ _ c.in_ok-a-in-OrElse.ensures.walked _ (Part-no _ _ _ _ _ _ _ e (Part-first _ _ _ _ _ _ c.in_err-b-in-OrElse.ensures.walked))))
 
 pub number-returns-in_err-test-in-Choose-clause-walked : goal.number-returns-in_err-test-in-Choose-clause-walked
 number-returns-in_err-test-in-Choose-clause-walked g t c =
     let p = err_from_is_err_and c.from_residual-in_err-test-in-Choose.result c.from_residual-in_err-test-in-Choose.ensures.1 in
-    rw p.1 (told.Part-num _ _ _ _ _ _ (does.choose_num _ _ _ _ _ _ _ c.in-Choose.is c.get-in-Choose.ensures refl refl) (Part-first _ _ _ _ _ _ c.in_err-test-in-Choose.ensures.walked))
+    Stopped _ _ _ _ p.1 (told.Part-num _ _ _ _ _ _ (does.choose_num _ _ _ _ _ _ _ c.in-Choose.is c.get-in-Choose.ensures refl refl) (Part-first _ _ _ _ _ _ c.in_err-test-in-Choose.ensures.walked))
 
 pub number-returns-in-Number-clause-walked : goal.number-returns-in-Number-clause-walked
 number-returns-in-Number-clause-walked g t c =
@@ -113,27 +113,27 @@ number-returns-in-Number-clause-walked g t c =
 
 pub number-returns-in-Builtin-clause-walked : goal.number-returns-in-Builtin-clause-walked
 number-returns-in-Builtin-clause-walked g t c =
-    let f : SFits w64 c.builtin_value.result = search rules in
+    let f : SFits w64 c.builtin_value.result = record { sfits = c.builtin_value.type_inv } in
     (told.Whole-num _ _ _ _ _ _ _ (does.builtin_num _ _ c.in-Builtin.is) (Number-seen _ _ _ _ _ f (sym c.builtin_value.ensures)))
 
 pub number-returns-in-Field-clause-walked : goal.number-returns-in-Field-clause-walked
 number-returns-in-Field-clause-walked g t c =
-    let f : SFits w64 c.int_field.result = search rules in
+    let f : SFits w64 c.int_field.result = record { sfits = c.int_field.type_inv } in
     (told.Whole-num _ _ _ _ _ _ _ (does.field_num _ _ c.in-Field.is) (Number-seen _ _ _ _ _ f (sym c.int_field.ensures)))
 
 pub number-returns-in-Var-clause-walked : goal.number-returns-in-Var-clause-walked
 number-returns-in-Var-clause-walked g t c =
-    let f : SFits w64 c.number_of.result = search rules in
+    let f : SFits w64 c.number_of.result = record { sfits = c.number_of.type_inv } in
     (told.Whole-num _ _ _ _ _ _ _ (does.var_num _ _ c.in-Var.is) (Number-seen _ _ _ _ _ f (sym (c.number_of.ensures ∙ ap number_of c.variable.ensures))))
 
 pub number-returns-in_ok-read-in-Map-clause-walked : goal.number-returns-in_ok-read-in-Map-clause-walked
 number-returns-in_ok-read-in-Map-clause-walked g t c =
-    let f : SFits w64 c.number_of-in-Map.result = search rules in
+    let f : SFits w64 c.number_of-in-Map.result = record { sfits = c.number_of-in-Map.type_inv } in
     (told.Whole-num _ _ _ _ _ _ _ (does.map_num _ _ _ _ c.in-Map.is c.as_slice.ensures) (Whole-next _ _ _ _ _ _ _ _ c.in_ok-read-in-Map.ensures.walked _ _ (Number-done _ _ _ _ _ f (sym c.number_of-in-Map.ensures))))
 
 pub number-returns-in-StepVar-clause-walked : goal.number-returns-in-StepVar-clause-walked
 number-returns-in-StepVar-clause-walked g t c =
-    let f : SFits w64 c.step_variable.result = search rules in
+    let f : SFits w64 c.step_variable.result = record { sfits = c.step_variable.type_inv } in
     (told.Whole-num _ _ _ _ _ _ _ (does.stepvar_num _ _ _ _ c.in-StepVar.is) (Whole-next _ _ _ _ _ _ _ _ (Looked-done _ _ _ _ _ refl) _ _ (Whole-next _ _ _ _ _ _ _ _ (Changed-done _ _ _ _ _ tt (sym c.step_variable.ensures.frame)) _ _ (Number-done _ _ _ _ _ f (sym c.step_variable.ensures.value)))))
 
 pub number-returns-in_ok-parts-in-StepMap-clause-walked : goal.number-returns-in_ok-parts-in-StepMap-clause-walked
@@ -144,7 +144,7 @@ number-returns-in_ok-parts-in-StepMap-clause-walked g t c =
 pub number-returns-in_ok-a-in-Unary-clause-walked : goal.number-returns-in_ok-a-in-Unary-clause-walked
 number-returns-in_ok-a-in-Unary-clause-walked g t c =
     let fa : SFits w64 c.in_ok-a-in-Unary.a = search rules in
-    let f : SFits w64 c.unary.result = search rules in
+    let f : SFits w64 c.unary.result = record { sfits = c.unary.type_inv } in
     let e = simp to_z-of_z at c.unary.ensures in
     (told.Whole-num _ _ _ _ _ _ _ (does.unary_num _ _ _ _ c.in-Unary.is c.get.ensures) (Whole-next _ _ _ _ _ _ _ _ c.in_ok-a-in-Unary.ensures.walked _ _ (Number-done _ _ _ _ _ f (sym e))))
 
@@ -152,67 +152,67 @@ pub number-returns-in_ok-b-in-Binary-clause-walked : goal.number-returns-in_ok-b
 number-returns-in_ok-b-in-Binary-clause-walked g t c =
     let fa : SFits w64 c.in_ok-a-in-Binary.a = search rules in
     let fb : SFits w64 c.in_ok-b-in-Binary.b = search rules in
-    let f : SFits w64 c.binary.result = search rules in
+    let f : SFits w64 c.binary.result = record { sfits = c.binary.type_inv } in
     let e = simp to_z-of_z at c.binary.ensures in
     (told.Whole-num _ _ _ _ _ _ _ (does.binary_num _ _ _ _ _ _ c.in-Binary.is c.get-in-Binary.ensures (c.get-in-Binary-2).ensures) (Whole-next _ _ _ _ _ _ _ _ c.in_ok-a-in-Binary.ensures.walked _ _ (Whole-next _ _ _ _ _ _ _ _ c.in_ok-b-in-Binary.ensures.walked _ _ (Number-done _ _ _ _ _ f (sym e)))))
 
 pub number-returns-in_ok-b-in-Compare-clause-walked : goal.number-returns-in_ok-b-in-Compare-clause-walked
 number-returns-in_ok-b-in-Compare-clause-walked g t c =
-    let f : SFits w64 c.truth.result = search rules in
+    let f : SFits w64 c.truth.result = record { sfits = c.truth.type_inv } in
     (told.Whole-num _ _ _ _ _ _ _ (does.compare_num _ _ _ _ _ _ c.in-Compare.is c.get-in-Compare.ensures (c.get-in-Compare-2).ensures) (Whole-next _ _ _ _ _ _ _ _ c.in_ok-a-in-Compare.ensures.walked _ _ (Whole-next _ _ _ _ _ _ _ _ c.in_ok-b-in-Compare.ensures.walked _ _ (Number-done _ _ _ _ _ f (sym (c.truth.ensures ∙ ap truth c.compared.ensures))))))
 
 pub number-returns-in_ok-b-in-AndThen-clause-walked : goal.number-returns-in_ok-b-in-AndThen-clause-walked
 number-returns-in_ok-b-in-AndThen-clause-walked g t c =
     let tested : SFits w64 c.in_ok-a-in-AndThen.a = search rules in
-    let test = simp to_z-of_z at c.holds.ensures in
+    let test = c.holds.ensures ∙ ap holds (to_z-of_z w64 c.in_ok-a-in-AndThen.a tested) in
     let e = sym test ∙ c.if-holds.true in
     let fb : SFits w64 c.in_ok-b-in-AndThen.b = search rules in
-    let f : SFits w64 c.truth-then-holds.result = search rules in
-    let right = simp to_z-of_z at c.holds-then-holds.ensures in
+    let f : SFits w64 c.truth-then-holds.result = record { sfits = c.truth-then-holds.type_inv } in
+    let right = c.holds-then-holds.ensures ∙ ap holds (to_z-of_z w64 c.in_ok-b-in-AndThen.b fb) in
     (told.Whole-num _ _ _ _ _ _ _ (does.andthen_num _ _ _ _ _ c.in-AndThen.is c.get-in-AndThen.ensures c.get-then-holds.ensures) (Whole-next _ _ _ _ _ _ _ _ c.in_ok-a-in-AndThen.ensures.walked _ _ (Whole-yes _ _ _ _ _ _ _ _ e (Whole-next _ _ _ _ _ _ _ _ c.in_ok-b-in-AndThen.ensures.walked _ _ (Number-done _ _ _ _ _ f (sym (c.truth-then-holds.ensures ∙ ap truth right)))))))
 
 pub number-returns-else-holds-clause-walked : goal.number-returns-else-holds-clause-walked
 number-returns-else-holds-clause-walked g t c =
     let tested : SFits w64 c.in_ok-a-in-AndThen.a = search rules in
-    let test = simp to_z-of_z at c.holds.ensures in
+    let test = c.holds.ensures ∙ ap holds (to_z-of_z w64 c.in_ok-a-in-AndThen.a tested) in
     let e = sym test ∙ c.if-holds.false in
     (told.Whole-num _ _ _ _ _ _ _ (does.andthen_num _ _ _ _ _ c.in-AndThen.is c.get-in-AndThen.ensures refl) (Whole-next _ _ _ _ _ _ _ _ c.in_ok-a-in-AndThen.ensures.walked _ _ (Whole-no _ _ _ _ _ _ _ _ e (Given-done _ _ _ _ _ _ refl refl))))
 
 pub number-returns-then-holds-2-clause-walked : goal.number-returns-then-holds-2-clause-walked
 number-returns-then-holds-2-clause-walked g t c =
     let tested : SFits w64 c.in_ok-a-in-OrElse.a = search rules in
-    let test = simp to_z-of_z at c.holds-in-OrElse.ensures in
+    let test = c.holds-in-OrElse.ensures ∙ ap holds (to_z-of_z w64 c.in_ok-a-in-OrElse.a tested) in
     let e = sym test ∙ (c.if-holds-2).true in
     (told.Whole-num _ _ _ _ _ _ _ (does.orelse_num _ _ _ _ _ c.in-OrElse.is c.get-in-OrElse.ensures refl) (Whole-next _ _ _ _ _ _ _ _ c.in_ok-a-in-OrElse.ensures.walked _ _ (Whole-yes _ _ _ _ _ _ _ _ e (Given-done _ _ _ _ _ _ refl refl))))
 
 pub number-returns-in_ok-b-in-OrElse-clause-walked : goal.number-returns-in_ok-b-in-OrElse-clause-walked
 number-returns-in_ok-b-in-OrElse-clause-walked g t c =
     let tested : SFits w64 c.in_ok-a-in-OrElse.a = search rules in
-    let test = simp to_z-of_z at c.holds-in-OrElse.ensures in
+    let test = c.holds-in-OrElse.ensures ∙ ap holds (to_z-of_z w64 c.in_ok-a-in-OrElse.a tested) in
     let e = sym test ∙ (c.if-holds-2).false in
     let fb : SFits w64 c.in_ok-b-in-OrElse.b = search rules in
-    let f : SFits w64 (c.truth-else-holds-2).result = search rules in
-    let right = simp to_z-of_z at (c.holds-else-holds-2).ensures in
+    let f : SFits w64 (c.truth-else-holds-2).result = record { sfits = (c.truth-else-holds-2).type_inv } in
+    let right = (c.holds-else-holds-2).ensures ∙ ap holds (to_z-of_z w64 c.in_ok-b-in-OrElse.b fb) in
     (told.Whole-num _ _ _ _ _ _ _ (does.orelse_num _ _ _ _ _ c.in-OrElse.is c.get-in-OrElse.ensures (c.get-else-holds-2).ensures) (Whole-next _ _ _ _ _ _ _ _ c.in_ok-a-in-OrElse.ensures.walked _ _ (Whole-no _ _ _ _ _ _ _ _ e (Whole-next _ _ _ _ _ _ _ _ c.in_ok-b-in-OrElse.ensures.walked _ _ (Number-done _ _ _ _ _ f (sym ((c.truth-else-holds-2).ensures ∙ ap truth right)))))))
 
 pub number-returns-then-holds-3-clause-walked : goal.number-returns-then-holds-3-clause-walked
 number-returns-then-holds-3-clause-walked g t c =
     let tested : SFits w64 c.in_ok-test-in-Choose.test = search rules in
-    let test = simp to_z-of_z at c.holds-in-Choose.ensures in
+    let test = c.holds-in-Choose.ensures ∙ ap holds (to_z-of_z w64 c.in_ok-test-in-Choose.test tested) in
     let e = sym test ∙ (c.if-holds-3).true in
     (told.Walked-num _ _ _ _ _ _ _ _ (does.choose_num _ _ _ _ _ _ _ c.in-Choose.is c.get-in-Choose.ensures (c.get-then-holds-3).ensures refl) (Walked-next _ _ _ _ _ _ _ _ c.in_ok-test-in-Choose.ensures.walked _ _ _ (Walked-yes _ _ _ _ _ _ _ _ _ e (c.number-then-holds-3).ensures.walked)))
 
 pub number-returns-else-holds-3-clause-walked : goal.number-returns-else-holds-3-clause-walked
 number-returns-else-holds-3-clause-walked g t c =
     let tested : SFits w64 c.in_ok-test-in-Choose.test = search rules in
-    let test = simp to_z-of_z at c.holds-in-Choose.ensures in
+    let test = c.holds-in-Choose.ensures ∙ ap holds (to_z-of_z w64 c.in_ok-test-in-Choose.test tested) in
     let e = sym test ∙ (c.if-holds-3).false in
     (told.Walked-num _ _ _ _ _ _ _ _ (does.choose_num _ _ _ _ _ _ _ c.in-Choose.is c.get-in-Choose.ensures refl (c.get-else-holds-3).ensures) (Walked-next _ _ _ _ _ _ _ _ c.in_ok-test-in-Choose.ensures.walked _ _ _ (Walked-no _ _ _ _ _ _ _ _ _ e (c.number-else-holds-3).ensures.walked)))
 
 pub read-returns-in_err-parts-clause-walked : goal.read-returns-in_err-parts-clause-walked
 read-returns-in_err-parts-clause-walked g t c =
     let p = err_from_is_err_and c.from_residual.result c.from_residual.ensures.1 in
-    rw p.1 (Part-first _ _ _ _ _ _ c.in_err-parts.ensures.walked)
+    Stopped _ _ _ _ p.1 (Part-first _ _ _ _ _ _ c.in_err-parts.ensures.walked)
 
 pub read-of-key-requires : goal.read-of-key-requires
 read-of-key-requires g t c =
@@ -236,12 +236,12 @@ text-str_field-requires-clause-inside g t c =
 pub text-returns-in_err-read-in-Map-clause-walked : goal.text-returns-in_err-read-in-Map-clause-walked
 text-returns-in_err-read-in-Map-clause-walked g t c =
     let p = err_from_is_err_and c.from_residual.result c.from_residual.ensures.1 in
-    rw p.1 (told.Part-str _ _ _ _ _ _ (does.map_str _ _ _ _ c.in-Map.is c.as_slice.ensures) (Part-first _ _ _ _ _ _ c.in_err-read-in-Map.ensures.walked))
+    Stopped _ _ _ _ p.1 (told.Part-str _ _ _ _ _ _ (does.map_str _ _ _ _ c.in-Map.is c.as_slice.ensures) (Part-first _ _ _ _ _ _ c.in_err-read-in-Map.ensures.walked))
 
 pub text-returns-in_err-test-in-Choose-clause-walked : goal.text-returns-in_err-test-in-Choose-clause-walked
 text-returns-in_err-test-in-Choose-clause-walked g t c =
     let p = err_from_is_err_and c.from_residual-in_err-test-in-Choose.result c.from_residual-in_err-test-in-Choose.ensures.1 in
-    rw p.1 (told.Part-str _ _ _ _ _ _ (does.choose_str _ _ _ _ _ _ _ c.in-Choose.is c.get.ensures refl refl) (Part-first _ _ _ _ _ _ c.in_err-test-in-Choose.ensures.walked))
+    Stopped _ _ _ _ p.1 (told.Part-str _ _ _ _ _ _ (does.choose_str _ _ _ _ _ _ _ c.in-Choose.is c.get.ensures refl refl) (Part-first _ _ _ _ _ _ c.in_err-test-in-Choose.ensures.walked))
 
 pub text-returns-in-Text-clause-walked : goal.text-returns-in-Text-clause-walked
 text-returns-in-Text-clause-walked g t c = (told.Whole-str _ _ _ _ _ _ _ (does.text_str _ _ c.in-Text.is) (Given-done _ _ _ _ _ _ (sym c.copy.ensures) refl))
@@ -261,26 +261,26 @@ text-returns-in_ok-read-in-Map-clause-walked g t c = (told.Whole-str _ _ _ _ _ _
 pub text-returns-then-holds-clause-walked : goal.text-returns-then-holds-clause-walked
 text-returns-then-holds-clause-walked g t c =
     let tested : SFits w64 c.in_ok-test-in-Choose.test = search rules in
-    let test = simp to_z-of_z at c.holds.ensures in
+    let test = c.holds.ensures ∙ ap holds (to_z-of_z w64 c.in_ok-test-in-Choose.test tested) in
     let e = sym test ∙ c.if-holds.true in
     (told.Walked-str _ _ _ _ _ _ _ _ (does.choose_str _ _ _ _ _ _ _ c.in-Choose.is c.get.ensures c.get-then-holds.ensures refl) (Walked-next _ _ _ _ _ _ _ _ c.in_ok-test-in-Choose.ensures.walked _ _ _ (Walked-yes _ _ _ _ _ _ _ _ _ e c.text.ensures.walked)))
 
 pub text-returns-else-holds-clause-walked : goal.text-returns-else-holds-clause-walked
 text-returns-else-holds-clause-walked g t c =
     let tested : SFits w64 c.in_ok-test-in-Choose.test = search rules in
-    let test = simp to_z-of_z at c.holds.ensures in
+    let test = c.holds.ensures ∙ ap holds (to_z-of_z w64 c.in_ok-test-in-Choose.test tested) in
     let e = sym test ∙ c.if-holds.false in
     (told.Walked-str _ _ _ _ _ _ _ _ (does.choose_str _ _ _ _ _ _ _ c.in-Choose.is c.get.ensures refl c.get-else-holds.ensures) (Walked-next _ _ _ _ _ _ _ _ c.in_ok-test-in-Choose.ensures.walked _ _ _ (Walked-no _ _ _ _ _ _ _ _ _ e c.text-else-holds.ensures.walked)))
 
 pub value-returns-in_err-n-in-Num-clause-walked : goal.value-returns-in_err-n-in-Num-clause-walked
 value-returns-in_err-n-in-Num-clause-walked g t c =
     let p = err_from_is_err_and c.from_residual.result c.from_residual.ensures.1 in
-    rw p.1 (told.Part-any _ _ _ _ _ _ (does.num_any _ _ _ c.in-Num.is refl) (Part-first _ _ _ _ _ _ c.in_err-n-in-Num.ensures.walked))
+    Stopped _ _ _ _ p.1 (told.Part-any _ _ _ _ _ _ (does.num_any _ _ _ c.in-Num.is refl) (Part-first _ _ _ _ _ _ c.in_err-n-in-Num.ensures.walked))
 
 pub value-returns-in_err-s-in-Str-clause-walked : goal.value-returns-in_err-s-in-Str-clause-walked
 value-returns-in_err-s-in-Str-clause-walked g t c =
     let p = err_from_is_err_and c.from_residual-in_err-s-in-Str.result c.from_residual-in_err-s-in-Str.ensures.1 in
-    rw p.1 (told.Part-any _ _ _ _ _ _ (does.str_any _ _ _ c.in-Str.is refl) (Part-first _ _ _ _ _ _ c.in_err-s-in-Str.ensures.walked))
+    Stopped _ _ _ _ p.1 (told.Part-any _ _ _ _ _ _ (does.str_any _ _ _ c.in-Str.is refl) (Part-first _ _ _ _ _ _ c.in_err-s-in-Str.ensures.walked))
 
 pub value-returns-in_ok-n-in-Num-clause-walked : goal.value-returns-in_ok-n-in-Num-clause-walked
 value-returns-in_ok-n-in-Num-clause-walked g t c =
@@ -309,12 +309,12 @@ values-value-requires g t c =
 pub values-returns-in_err-part-clause-walked : goal.values-returns-in_err-part-clause-walked
 values-returns-in_err-part-clause-walked g t c =
     let p = err_from_is_err_and c.from_residual.result c.from_residual.ensures.1 in
-    rw p.1 (gathers-stop _ _ _ _ _ _ _ _ _ _ c.loop-key-test.true c.key-item.is c.loop-key.invariant.left c.in_err-part.ensures.walked)
+    Stopped _ _ _ _ p.1 (gathers-stop _ _ _ _ _ _ _ _ _ _ c.loop-key-test.true c.key-item.is c.loop-key.invariant.left c.in_err-part.ensures.walked)
 
 pub values-returns-in_err-push-clause-walked : goal.values-returns-in_err-push-clause-walked
 values-returns-in_err-push-clause-walked g t c =
     let p = err_from_is_err_and c.from_residual-in_err-push.result c.from_residual-in_err-push.ensures.1 in
-    rw p.1 (gathers-drop _ _ _ _ _ _ _ _ _ _ _ _ c.loop-key-test.true c.key-item.is c.loop-key.invariant.left c.in_ok-part.ensures.walked)
+    Stopped _ _ _ _ p.1 (gathers-drop _ _ _ _ _ _ _ _ _ _ _ _ c.loop-key-test.true c.key-item.is c.loop-key.invariant.left c.in_ok-part.ensures.walked)
 
 pub values-loop-key-preserved : goal.values-loop-key-preserved
 values-loop-key-preserved g t c =
@@ -331,7 +331,7 @@ values-returns-clause-walked g t c = gathers-end _ _ _ _ _ _ _ _ c.loop-key-test
 pub read_agg-returns-in_err-parts-clause-walked : goal.read_agg-returns-in_err-parts-clause-walked
 read_agg-returns-in_err-parts-clause-walked g t c =
     let p = err_from_is_err_and c.from_residual.result c.from_residual.ensures.1 in
-    rw p.1 (Part-first _ _ _ _ _ _ c.in_err-parts.ensures.walked)
+    Stopped _ _ _ _ p.1 (Part-first _ _ _ _ _ _ c.in_err-parts.ensures.walked)
 
 pub read_agg-of-key-requires : goal.read_agg-of-key-requires
 read_agg-of-key-requires g t c =
@@ -354,46 +354,46 @@ pub number-number-requires : goal.number-number-requires
 number-number-requires g t c κs within = (search (rules, nums.the_lemmas), (within.0, (within.1, (c.requires.served, unary_fits c.args.view.now c.args.e.now c.requires.fits _ _ _ c.in-Unary.is c.get.ensures))))
 
 pub number-number-requires-in-Binary : goal.number-number-requires-in-Binary
-number-number-requires-in-Binary g t c κs within = (search (rules, nums.the_lemmas), (within.0, (within.1, (c.requires.served, rw c.get-in-Binary.ensures (binary_fits c.args.view.now c.args.e.now c.requires.fits _ _ _ c.in-Binary.is).0))))
+number-number-requires-in-Binary g t c κs within = (search (rules, nums.the_lemmas), (within.0, (within.1, (c.requires.served, num_same c.args.view.now _ _ c.get-in-Binary.ensures ((binary_fits c.args.view.now c.args.e.now c.requires.fits _ _ _ c.in-Binary.is).0)))))
 
 pub number-number-requires-in-Binary-2 : goal.number-number-requires-in-Binary-2
-number-number-requires-in-Binary-2 g t c κs within = (search (rules, nums.the_lemmas), (within.0, (within.1, (rw c.in_ok-a-in-Binary.ensures.kept c.requires.served, rw (c.get-in-Binary-2).ensures (binary_fits c.args.view.now c.args.e.now c.requires.fits _ _ _ c.in-Binary.is).1))))
+number-number-requires-in-Binary-2 g t c κs within = (search (rules, nums.the_lemmas), (within.0, (within.1, (served_still c.args.view.now _ _ c.in_ok-a-in-Binary.ensures.kept c.requires.served, num_same c.args.view.now _ _ (c.get-in-Binary-2).ensures ((binary_fits c.args.view.now c.args.e.now c.requires.fits _ _ _ c.in-Binary.is).1)))))
 
 pub number-text-requires : goal.number-text-requires
-number-text-requires g t c κs within = (search (rules, nums.the_lemmas), (within.0, (within.1, (c.requires.served, rw c.get-in-Compare.ensures (compare_fits c.args.view.now c.args.e.now c.requires.fits _ _ _ c.in-Compare.is).0))))
+number-text-requires g t c κs within = (search (rules, nums.the_lemmas), (within.0, (within.1, (c.requires.served, str_same c.args.view.now _ _ c.get-in-Compare.ensures ((compare_fits c.args.view.now c.args.e.now c.requires.fits _ _ _ c.in-Compare.is).0)))))
 
 pub number-text-requires-in-Compare : goal.number-text-requires-in-Compare
-number-text-requires-in-Compare g t c κs within = (search (rules, nums.the_lemmas), (within.0, (within.1, (rw c.in_ok-a-in-Compare.ensures.kept c.requires.served, rw (c.get-in-Compare-2).ensures (compare_fits c.args.view.now c.args.e.now c.requires.fits _ _ _ c.in-Compare.is).1))))
+number-text-requires-in-Compare g t c κs within = (search (rules, nums.the_lemmas), (within.0, (within.1, (served_still c.args.view.now _ _ c.in_ok-a-in-Compare.ensures.kept c.requires.served, str_same c.args.view.now _ _ (c.get-in-Compare-2).ensures ((compare_fits c.args.view.now c.args.e.now c.requires.fits _ _ _ c.in-Compare.is).1)))))
 
 pub number-number-requires-in-AndThen : goal.number-number-requires-in-AndThen
-number-number-requires-in-AndThen g t c κs within = (search (rules, nums.the_lemmas), (within.0, (within.1, (c.requires.served, rw c.get-in-AndThen.ensures (and_fits c.args.view.now c.args.e.now c.requires.fits _ _ c.in-AndThen.is).0))))
+number-number-requires-in-AndThen g t c κs within = (search (rules, nums.the_lemmas), (within.0, (within.1, (c.requires.served, num_same c.args.view.now _ _ c.get-in-AndThen.ensures ((and_fits c.args.view.now c.args.e.now c.requires.fits _ _ c.in-AndThen.is).0)))))
 
 pub number-number-requires-then-holds : goal.number-number-requires-then-holds
-number-number-requires-then-holds g t c κs within = (search (rules, nums.the_lemmas), (within.0, (within.1, (rw c.in_ok-a-in-AndThen.ensures.kept c.requires.served, rw c.get-then-holds.ensures (and_fits c.args.view.now c.args.e.now c.requires.fits _ _ c.in-AndThen.is).1))))
+number-number-requires-then-holds g t c κs within = (search (rules, nums.the_lemmas), (within.0, (within.1, (served_still c.args.view.now _ _ c.in_ok-a-in-AndThen.ensures.kept c.requires.served, num_same c.args.view.now _ _ c.get-then-holds.ensures ((and_fits c.args.view.now c.args.e.now c.requires.fits _ _ c.in-AndThen.is).1)))))
 
 pub number-number-requires-in-OrElse : goal.number-number-requires-in-OrElse
-number-number-requires-in-OrElse g t c κs within = (search (rules, nums.the_lemmas), (within.0, (within.1, (c.requires.served, rw c.get-in-OrElse.ensures (or_fits c.args.view.now c.args.e.now c.requires.fits _ _ c.in-OrElse.is).0))))
+number-number-requires-in-OrElse g t c κs within = (search (rules, nums.the_lemmas), (within.0, (within.1, (c.requires.served, num_same c.args.view.now _ _ c.get-in-OrElse.ensures ((or_fits c.args.view.now c.args.e.now c.requires.fits _ _ c.in-OrElse.is).0)))))
 
 pub number-number-requires-else-holds-2 : goal.number-number-requires-else-holds-2
-number-number-requires-else-holds-2 g t c κs within = (search (rules, nums.the_lemmas), (within.0, (within.1, (rw c.in_ok-a-in-OrElse.ensures.kept c.requires.served, rw (c.get-else-holds-2).ensures (or_fits c.args.view.now c.args.e.now c.requires.fits _ _ c.in-OrElse.is).1))))
+number-number-requires-else-holds-2 g t c κs within = (search (rules, nums.the_lemmas), (within.0, (within.1, (served_still c.args.view.now _ _ c.in_ok-a-in-OrElse.ensures.kept c.requires.served, num_same c.args.view.now _ _ (c.get-else-holds-2).ensures ((or_fits c.args.view.now c.args.e.now c.requires.fits _ _ c.in-OrElse.is).1)))))
 
 pub number-number-requires-in-Choose : goal.number-number-requires-in-Choose
-number-number-requires-in-Choose g t c κs within = (search (rules, nums.the_lemmas), (within.0, (within.1, (c.requires.served, rw c.get-in-Choose.ensures (choose_fits c.args.view.now c.args.e.now c.requires.fits _ _ _ c.in-Choose.is).0))))
+number-number-requires-in-Choose g t c κs within = (search (rules, nums.the_lemmas), (within.0, (within.1, (c.requires.served, num_same c.args.view.now _ _ c.get-in-Choose.ensures ((choose_fits c.args.view.now c.args.e.now c.requires.fits _ _ _ c.in-Choose.is).0)))))
 
 pub number-number-requires-then-holds-3 : goal.number-number-requires-then-holds-3
-number-number-requires-then-holds-3 g t c κs within = (search (rules, nums.the_lemmas), (within.0, (within.1, (rw c.in_ok-test-in-Choose.ensures.kept c.requires.served, rw (c.get-then-holds-3).ensures (choose_fits c.args.view.now c.args.e.now c.requires.fits _ _ _ c.in-Choose.is).1.0))))
+number-number-requires-then-holds-3 g t c κs within = (search (rules, nums.the_lemmas), (within.0, (within.1, (served_still c.args.view.now _ _ c.in_ok-test-in-Choose.ensures.kept c.requires.served, num_same c.args.view.now _ _ (c.get-then-holds-3).ensures ((choose_fits c.args.view.now c.args.e.now c.requires.fits _ _ _ c.in-Choose.is).1.0)))))
 
 pub number-number-requires-else-holds-3 : goal.number-number-requires-else-holds-3
-number-number-requires-else-holds-3 g t c κs within = (search (rules, nums.the_lemmas), (within.0, (within.1, (rw c.in_ok-test-in-Choose.ensures.kept c.requires.served, rw (c.get-else-holds-3).ensures (choose_fits c.args.view.now c.args.e.now c.requires.fits _ _ _ c.in-Choose.is).1.1))))
+number-number-requires-else-holds-3 g t c κs within = (search (rules, nums.the_lemmas), (within.0, (within.1, (served_still c.args.view.now _ _ c.in_ok-test-in-Choose.ensures.kept c.requires.served, num_same c.args.view.now _ _ (c.get-else-holds-3).ensures ((choose_fits c.args.view.now c.args.e.now c.requires.fits _ _ _ c.in-Choose.is).1.1)))))
 
 pub text-number-requires : goal.text-number-requires
-text-number-requires g t c κs within = (search (rules, strs.the_lemmas), (within.0, (within.1, (c.requires.served, rw c.get.ensures (choose_text_fits c.args.view.now c.args.e.now c.requires.fits _ _ _ c.in-Choose.is).0))))
+text-number-requires g t c κs within = (search (rules, strs.the_lemmas), (within.0, (within.1, (c.requires.served, num_same c.args.view.now _ _ c.get.ensures ((choose_text_fits c.args.view.now c.args.e.now c.requires.fits _ _ _ c.in-Choose.is).0)))))
 
 pub text-text-requires : goal.text-text-requires
-text-text-requires g t c κs within = (search (rules, strs.the_lemmas), (within.0, (within.1, (rw c.in_ok-test-in-Choose.ensures.kept c.requires.served, rw c.get-then-holds.ensures (choose_text_fits c.args.view.now c.args.e.now c.requires.fits _ _ _ c.in-Choose.is).1.0))))
+text-text-requires g t c κs within = (search (rules, strs.the_lemmas), (within.0, (within.1, (served_still c.args.view.now _ _ c.in_ok-test-in-Choose.ensures.kept c.requires.served, str_same c.args.view.now _ _ c.get-then-holds.ensures ((choose_text_fits c.args.view.now c.args.e.now c.requires.fits _ _ _ c.in-Choose.is).1.0)))))
 
 pub text-text-requires-else-holds : goal.text-text-requires-else-holds
-text-text-requires-else-holds g t c κs within = (search (rules, strs.the_lemmas), (within.0, (within.1, (rw c.in_ok-test-in-Choose.ensures.kept c.requires.served, rw c.get-else-holds.ensures (choose_text_fits c.args.view.now c.args.e.now c.requires.fits _ _ _ c.in-Choose.is).1.1))))
+text-text-requires-else-holds g t c κs within = (search (rules, strs.the_lemmas), (within.0, (within.1, (served_still c.args.view.now _ _ c.in_ok-test-in-Choose.ensures.kept c.requires.served, str_same c.args.view.now _ _ c.get-else-holds.ensures ((choose_text_fits c.args.view.now c.args.e.now c.requires.fits _ _ _ c.in-Choose.is).1.1)))))
 
 pub number-returns-in-Builtin-clause-kept : goal.number-returns-in-Builtin-clause-kept
 number-returns-in-Builtin-clause-kept g t c = refl

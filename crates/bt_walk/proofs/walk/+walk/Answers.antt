@@ -13,7 +13,7 @@ use Rattle.walk_meaning.specs.Does.{Does}
 use Rattle.bt_walk.specs.Flows.{leaves}
 use Rattle.walk_meaning.specs.Stmts.{stmt_does, block_does, in_sequence, block_or_next}
 use Rattle.walk_meaning.specs.Served.{IsServed, StmtFits, scene_in}
-use Rattle.bt_walk.proofs.Binds.{Walked-next, Looked-done, Changed-done}
+use Rattle.bt_walk.proofs.Binds.{Walked-next, Looked-done, Changed-done, Stopped}
 use Rattle.bt_walk.proofs.Loops.{Left-Walked, done_with, block-stop, block-next, block-leaves, block-end, arm-stop, arm-yes, arm-no, arms-end, turns-start, turns-stop, turns-next, turns-leaves, turns-end, while-starts, while-stop, while-ends, while-breaks, while-leaves, while-again}
 use Rattle.bt_walk.proofs.WalkedAs.{Walked-stmt}
 use Rattle.walk_meaning.proofs.StmtDoes.{print_stmt, if_stmt, arms_fit, otherwise_fits, block_is, stmts_fit}
@@ -37,7 +37,7 @@ walk_block-walk_stmt-requires g t c κs within =
 pub walk_block-returns-in_err-flow-clause-walked : goal.walk_block-returns-in_err-flow-clause-walked
 walk_block-returns-in_err-flow-clause-walked g t c =
     let p = err_from_is_err_and c.from_residual.result c.from_residual.ensures.1 in
-    rw p.1 (block-stop _ _ _ _ _ _ _ _ _ c.loop-stmt-test.true c.stmt-item.is c.loop-stmt.invariant.left c.in_err-flow.ensures.walked)
+    Stopped _ _ _ _ p.1 (block-stop _ _ _ _ _ _ _ _ _ c.loop-stmt-test.true c.stmt-item.is c.loop-stmt.invariant.left c.in_err-flow.ensures.walked)
 
 pub walk_block-returns-else-is_next-clause-walked : goal.walk_block-returns-else-is_next-clause-walked
 walk_block-returns-else-is_next-clause-walked g t c = block-leaves _ _ _ _ _ _ _ _ _ c.loop-stmt-test.true c.stmt-item.is c.loop-stmt.invariant.left _ _ c.in_ok-flow.ensures.walked (sym c.is_next.ensures ∙ c.if-is_next.false)
@@ -70,7 +70,7 @@ walk_stmt-number-requires-clause-fits g t c = (arms_fit c.args.view.now _ _ _ _ 
 pub walk_stmt-returns-in_err-test-in-If-clause-walked : goal.walk_stmt-returns-in_err-test-in-If-clause-walked
 walk_stmt-returns-in_err-test-in-If-clause-walked g t c =
     let p = err_from_is_err_and c.from_residual.result c.from_residual.ensures.1 in
-    rw p.1 (arm-stop _ _ _ _ _ _ _ _ _ _ c.loop-arm-test.true c.arm-item.is c.loop-arm.invariant.left c.in_err-test-in-If.ensures.walked)
+    Stopped _ _ _ _ p.1 (arm-stop _ _ _ _ _ _ _ _ _ _ c.loop-arm-test.true c.arm-item.is c.loop-arm.invariant.left c.in_err-test-in-If.ensures.walked)
 
 pub walk_stmt-returns-in_err-test-in-If-clause-kept : goal.walk_stmt-returns-in_err-test-in-If-clause-kept
 walk_stmt-returns-in_err-test-in-If-clause-kept g t c = c.in_err-test-in-If.ensures.kept ∙ c.loop-arm.invariant.kept
@@ -155,7 +155,7 @@ walk_turns-loop-made-init g t c = record { left = turns-start _ _ _ _ _ _; kept 
 pub walk_turns-returns-in_err-flow-clause-walked : goal.walk_turns-returns-in_err-flow-clause-walked
 walk_turns-returns-in_err-flow-clause-walked g t c =
     let p = err_from_is_err_and c.from_residual.result c.from_residual.ensures.1 in
-    rw p.1 (turns-stop _ _ _ _ _ _ _ _ _ _ c.loop-made-test.true c.loop-made.invariant.left c.in_err-flow.ensures.walked)
+    Stopped _ _ _ _ p.1 (turns-stop _ _ _ _ _ _ _ _ _ _ c.loop-made-test.true c.loop-made.invariant.left c.in_err-flow.ensures.walked)
 
 pub walk_turns-returns-in-Some-clause-walked : goal.walk_turns-returns-in-Some-clause-walked
 walk_turns-returns-in-Some-clause-walked g t c = turns-leaves _ _ _ _ _ _ _ _ _ _ c.loop-made-test.true c.loop-made.invariant.left _ _ c.in_ok-flow.ensures.walked _ (sym c.leaves.ensures ∙ c.in-Some.is)
@@ -177,7 +177,7 @@ walk_while-loop-value-init g t c = record { looping = while-starts _ _ _ _ _ _; 
 pub walk_while-returns-in_err-value-clause-walked : goal.walk_while-returns-in_err-value-clause-walked
 walk_while-returns-in_err-value-clause-walked g t c =
     let p = err_from_is_err_and c.from_residual.result c.from_residual.ensures.1 in
-    rw p.1 (while-stop _ _ _ _ _ _ _ _ c.loop-value.invariant.looping _ c.in_err-value.ensures.walked)
+    Stopped _ _ _ _ p.1 (while-stop _ _ _ _ _ _ _ _ c.loop-value.invariant.looping _ c.in_err-value.ensures.walked)
 
 pub walk_while-returns-in_err-flow-clause-walked : goal.walk_while-returns-in_err-flow-clause-walked
 walk_while-returns-in_err-flow-clause-walked g t c =
@@ -185,7 +185,7 @@ walk_while-returns-in_err-flow-clause-walked g t c =
     let tested : SFits w64 c.in_ok-value.value = search rules in
     let test = simp to_z-of_z at c.holds.ensures in
     let e = sym test ∙ c.if-holds.true in
-    rw p.1 (while-breaks _ _ _ _ _ _ _ _ c.loop-value.invariant.looping _ _ _ c.in_ok-value.ensures.walked _ e c.in_err-flow.ensures.walked)
+    Stopped _ _ _ _ p.1 (while-breaks _ _ _ _ _ _ _ _ c.loop-value.invariant.looping _ _ _ c.in_ok-value.ensures.walked _ e c.in_err-flow.ensures.walked)
 
 pub walk_while-returns-in-Some-clause-walked : goal.walk_while-returns-in-Some-clause-walked
 walk_while-returns-in-Some-clause-walked g t c =
