@@ -24,7 +24,7 @@ SHOWN = 40
 LEAST = 0.5
 LEAST_OF_GOALS = 0.1
 # What the prover notes of a definition, as it lies among the bytes of a module that was checked: what it called, its name, and its millionths of a second.
-NOTE = re.compile(rb'"calls":(\[[^{}]*?\]),"goals":[^{}]*?"name":"([^"]*)"[^{}]*?"phases":\[([\d,]+)\]')
+NOTE = re.compile(rb'"calls":(\[.*?\]),"goals":.*?"kind":.*?"name":"([^"]*)".*?"phases":\[([\d,]+)\]', re.DOTALL)
 CALL = re.compile(r'\["([^"]*)",\[\d+,\d+\],(\d+)\]')
 
 
