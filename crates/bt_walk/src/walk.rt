@@ -6,6 +6,7 @@ ghost use Rattle.bt_walk.specs.Flows.{leaves};
 ghost use Rattle.bt_walk.specs.Walked.{Walked};
 ghost use Rattle.walk_meaning.specs.Served.{IsServed, Fits, StmtFits, BlockFits, scene_in};
 ghost use Rattle.typed_tree.specs.Parts.{num_parts};
+ghost use Rattle.typed_tree.specs.declared.stmt.TypedStmt.TheVariants.{If as IfStmt};
 
 use crate::flow::{is_next, leaves};
 use crate::stmt::{
@@ -13,6 +14,7 @@ use crate::stmt::{
     update_variable, zero,
 };
 use crate::value::number;
+use bt_core::items::Items;
 use bt_core::memory::Memory;
 use bt_core::port::Port;
 use map_ops::values::holds;
@@ -77,18 +79,7 @@ pub fn walk_stmt<P: Port>(
             delete_at(alloc, view, *map, keys.as_slice(), frame, port)
         }
         TypedStmt::Jump(to) => jump(alloc, *to, port),
-        TypedStmt::If { arms, otherwise } => {
-            for arm in arms.as_slice() {
-                let test = number(alloc, view, &arm.0, frame, port)?;
-                if holds(test) {
-                    return walk_block(alloc, view, &arm.1, frame, port);
-                }
-            }
-            match otherwise {
-                Some(block) => walk_block(alloc, view, block, frame, port),
-                None => Ok(Flow::Next),
-            }
-        }
+        TypedStmt::If { arms, otherwise } => walk_if(alloc, view, arms, otherwise, frame, port),
         TypedStmt::While {
             condition,
             block,
@@ -97,6 +88,34 @@ pub fn walk_stmt<P: Port>(
         TypedStmt::Unroll { turns, block, line } => {
             walk_turns(alloc, view, *turns, *line, block, frame, port)
         }
+    }
+}
+
+/// Walks the first of the arms whose test holds, and where none does the block of `else`.
+#[cycle(walk)]
+fn walk_if<P: Port>(
+    alloc: Global,
+    view: &View<'_>,
+    arms: &Items<(NumExpr, TypedBlock)>,
+    otherwise: &Option<TypedBlock>,
+    frame: &mut Frame,
+    port: &mut P,
+) -> Result<Flow, Memory>
+    requires served { IsServed view.now (P.fixed port.old).setting }
+    requires fits { StmtFits view.now (IfStmt arms.now otherwise.now) }
+    ensures walked { Walked (stmt_does (IfStmt arms.now otherwise.now)) (scene_in view.now) frame.old (P.steps port.old) (P.steps port.new) result frame.new }
+    ensures kept { P.fixed port.new ≡ P.fixed port.old }
+    ensures turns { frame.new.turns ≤ frame.old.turns }
+{
+    for arm in arms.as_slice() {
+        let test = number(alloc, view, &arm.0, frame, port)?;
+        if holds(test) {
+            return walk_block(alloc, view, &arm.1, frame, port);
+        }
+    }
+    match otherwise {
+        Some(block) => walk_block(alloc, view, block, frame, port),
+        None => Ok(Flow::Next),
     }
 }
 

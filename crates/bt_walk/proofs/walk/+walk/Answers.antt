@@ -1,4 +1,4 @@
-use Rattle.std.proofs.Common.{◌≡◌, ◌<◌, ◌-◌, ◌∙◌, suc, List, Option, Some, None, option_map, map, refl, sym, ap, arith, rules, SFits, w64}
+use Rattle.std.proofs.Common.{◌≡◌, ◌<◌, ◌-◌, ◌∙◌, suc, List, Option, Some, None, option_map, map, refl, sym, ap, subst, arith, rules, SFits, w64}
 use Rattle.std.proofs.lemmas.Int.{to_z-of_z}
 use Rattle.std.proofs.lemmas.Result.{err_from_is_err_and, IfOk-weaker}
 use Rattle.bt_core.proofs.InteractionLaws.{Left-here, Left-is}
@@ -6,6 +6,7 @@ use Rattle.typed_tree.specs.declared.stmt.TypedBlock as blocks
 use Rattle.typed_tree.specs.declared.stmt.TypedStmt as stmts
 use Rattle.typed_tree.specs.declared.stmt.TypedBlock.{TypedBlock}
 use Rattle.typed_tree.specs.declared.stmt.TypedStmt.{TypedStmt}
+use Rattle.typed_tree.specs.declared.stmt.TypedStmt.TheVariants.{If}
 use Rattle.walk_meaning.specs.declared.flow.Flow.{Flow}
 use Rattle.walk_meaning.specs.declared.flow.Flow.TheVariants.{Stop}
 use Rattle.bt_core.specs.declared.ending.Ending.TheVariants.{Cut}
@@ -53,64 +54,64 @@ walk_block-loop-stmt-preserved g t c =
 pub walk_block-returns-clause-walked : goal.walk_block-returns-clause-walked
 walk_block-returns-clause-walked g t c = block-end _ _ _ _ _ _ _ c.loop-stmt-test.false c.loop-stmt.invariant.left
 
-pub walk_stmt-loop-arm-init : goal.walk_stmt-loop-arm-init
-walk_stmt-loop-arm-init g t c =
+pub walk_if-loop-arm-init : goal.walk_if-loop-arm-init
+walk_if-loop-arm-init g t c =
     record {
-      left = Left-is _ _ _ _ _ (Left-here _ _) (ap (λ (d : Does Flow). d (scene_in c.args.view.now) c.args.frame.now) (if_stmt _ _ _ _ c.in-If.is c.as_slice-arm-items.ensures));
+      left = Left-is _ _ _ _ _ (Left-here _ _) (ap (λ (d : Does Flow). d (scene_in c.args.view.now) c.args.frame.now) (if_stmt _ _ _ _ refl c.as_slice-arm-items.ensures));
       kept = refl;
       turns = omega arith;
     }
 
-pub walk_stmt-number-requires-clause-served : goal.walk_stmt-number-requires-clause-served
-walk_stmt-number-requires-clause-served g t c = rw c.loop-arm.invariant.kept c.requires.served
+pub walk_if-number-requires-clause-served : goal.walk_if-number-requires-clause-served
+walk_if-number-requires-clause-served g t c = rw c.loop-arm.invariant.kept c.requires.served
 
-pub walk_stmt-number-requires-clause-fits : goal.walk_stmt-number-requires-clause-fits
-walk_stmt-number-requires-clause-fits g t c = (arms_fit c.args.view.now _ _ _ _ _ _ c.in-If.is c.as_slice-arm-items.ensures c.loop-arm-test.true c.arm-item.is c.requires.fits).0
+pub walk_if-number-requires-clause-fits : goal.walk_if-number-requires-clause-fits
+walk_if-number-requires-clause-fits g t c = (arms_fit c.args.view.now _ _ _ _ _ _ refl c.as_slice-arm-items.ensures c.loop-arm-test.true c.arm-item.is c.requires.fits).0
 
-pub walk_stmt-returns-in_err-test-in-If-clause-walked : goal.walk_stmt-returns-in_err-test-in-If-clause-walked
-walk_stmt-returns-in_err-test-in-If-clause-walked g t c =
+pub walk_if-returns-in_err-test-clause-walked : goal.walk_if-returns-in_err-test-clause-walked
+walk_if-returns-in_err-test-clause-walked g t c =
     let p = err_from_is_err_and c.from_residual.result c.from_residual.ensures.1 in
-    Stopped _ _ _ _ p.1 (arm-stop _ _ _ _ _ _ _ _ _ _ c.loop-arm-test.true c.arm-item.is c.loop-arm.invariant.left c.in_err-test-in-If.ensures.walked)
+    Stopped _ _ _ _ p.1 (arm-stop _ _ _ _ _ _ _ _ _ _ c.loop-arm-test.true c.arm-item.is c.loop-arm.invariant.left c.in_err-test.ensures.walked)
 
-pub walk_stmt-returns-in_err-test-in-If-clause-kept : goal.walk_stmt-returns-in_err-test-in-If-clause-kept
-walk_stmt-returns-in_err-test-in-If-clause-kept g t c = c.in_err-test-in-If.ensures.kept ∙ c.loop-arm.invariant.kept
+pub walk_if-returns-in_err-test-clause-kept : goal.walk_if-returns-in_err-test-clause-kept
+walk_if-returns-in_err-test-clause-kept g t c = c.in_err-test.ensures.kept ∙ c.loop-arm.invariant.kept
 
-pub walk_stmt-returns-in_err-test-in-If-clause-turns : goal.walk_stmt-returns-in_err-test-in-If-clause-turns
-walk_stmt-returns-in_err-test-in-If-clause-turns g t c = omega (arith, c.in_err-test-in-If.ensures.turns, c.loop-arm.invariant.turns)
+pub walk_if-returns-in_err-test-clause-turns : goal.walk_if-returns-in_err-test-clause-turns
+walk_if-returns-in_err-test-clause-turns g t c = omega (arith, c.in_err-test.ensures.turns, c.loop-arm.invariant.turns)
 
-pub walk_stmt-walk_block-requires : goal.walk_stmt-walk_block-requires
-walk_stmt-walk_block-requires g t c κs within =
-    let fits = (arms_fit c.args.view.now _ _ _ _ _ _ c.in-If.is c.as_slice-arm-items.ensures c.loop-arm-test.true c.arm-item.is c.requires.fits) in
-    let same : IsServed c.args.view.now (g.P.Port.fixed c.number.new.port).setting = rw (c.in_ok-test-in-If.ensures.kept, c.loop-arm.invariant.kept) c.requires.served in
+pub walk_if-walk_block-requires : goal.walk_if-walk_block-requires
+walk_if-walk_block-requires g t c κs within =
+    let fits = (arms_fit c.args.view.now _ _ _ _ _ _ refl c.as_slice-arm-items.ensures c.loop-arm-test.true c.arm-item.is c.requires.fits) in
+    let same : IsServed c.args.view.now (g.P.Port.fixed c.number.new.port).setting = rw (c.in_ok-test.ensures.kept, c.loop-arm.invariant.kept) c.requires.served in
     (search (rules, stmts.the_lemmas, blocks.the_lemmas), (within.0, (within.1, (same, fits.1))))
 
-pub walk_stmt-returns-then-holds-clause-walked : goal.walk_stmt-returns-then-holds-clause-walked
-walk_stmt-returns-then-holds-clause-walked g t c =
-    let tested : SFits w64 c.in_ok-test-in-If.test = search rules in
+pub walk_if-returns-then-holds-clause-walked : goal.walk_if-returns-then-holds-clause-walked
+walk_if-returns-then-holds-clause-walked g t c =
+    let tested : SFits w64 c.in_ok-test.test = search rules in
     let test = simp to_z-of_z at c.holds.ensures in
     let e = sym test ∙ c.if-holds.true in
-    Left-Walked (stmt_does c.args.s.now) (scene_in c.args.view.now) c.args.frame.now (block_does c.arm-item.result.1) _ _ _ _ _ _ (arm-yes _ _ _ _ _ _ _ _ _ _ c.loop-arm-test.true c.arm-item.is c.loop-arm.invariant.left _ _ c.in_ok-test-in-If.ensures.walked e) c.walk_block.ensures.walked
+    Left-Walked (stmt_does (If c.args.arms.now c.args.otherwise.now)) (scene_in c.args.view.now) c.args.frame.now (block_does c.arm-item.result.1) _ _ _ _ _ _ (arm-yes _ _ _ _ _ _ _ _ _ _ c.loop-arm-test.true c.arm-item.is c.loop-arm.invariant.left _ _ c.in_ok-test.ensures.walked e) c.walk_block.ensures.walked
 
-pub walk_stmt-returns-then-holds-clause-kept : goal.walk_stmt-returns-then-holds-clause-kept
-walk_stmt-returns-then-holds-clause-kept g t c = c.walk_block.ensures.kept ∙ (c.in_ok-test-in-If.ensures.kept ∙ c.loop-arm.invariant.kept)
+pub walk_if-returns-then-holds-clause-kept : goal.walk_if-returns-then-holds-clause-kept
+walk_if-returns-then-holds-clause-kept g t c = c.walk_block.ensures.kept ∙ (c.in_ok-test.ensures.kept ∙ c.loop-arm.invariant.kept)
 
-pub walk_stmt-returns-then-holds-clause-turns : goal.walk_stmt-returns-then-holds-clause-turns
-walk_stmt-returns-then-holds-clause-turns g t c = omega (arith, c.walk_block.ensures.turns, c.in_ok-test-in-If.ensures.turns, c.loop-arm.invariant.turns)
+pub walk_if-returns-then-holds-clause-turns : goal.walk_if-returns-then-holds-clause-turns
+walk_if-returns-then-holds-clause-turns g t c = omega (arith, c.walk_block.ensures.turns, c.in_ok-test.ensures.turns, c.loop-arm.invariant.turns)
 
-pub walk_stmt-loop-arm-preserved : goal.walk_stmt-loop-arm-preserved
-walk_stmt-loop-arm-preserved g t c =
-    let tested : SFits w64 c.in_ok-test-in-If.test = search rules in
+pub walk_if-loop-arm-preserved : goal.walk_if-loop-arm-preserved
+walk_if-loop-arm-preserved g t c =
+    let tested : SFits w64 c.in_ok-test.test = search rules in
     let test = simp to_z-of_z at c.holds.ensures in
     let e = sym test ∙ c.if-holds.false in
     record {
-      left = arm-no _ _ _ _ _ _ _ _ _ _ c.loop-arm-test.true c.arm-item.is c.loop-arm.invariant.left _ _ c.in_ok-test-in-If.ensures.walked e;
-      kept = c.in_ok-test-in-If.ensures.kept ∙ c.loop-arm.invariant.kept;
-      turns = omega (arith, c.in_ok-test-in-If.ensures.turns, c.loop-arm.invariant.turns);
+      left = arm-no _ _ _ _ _ _ _ _ _ _ c.loop-arm-test.true c.arm-item.is c.loop-arm.invariant.left _ _ c.in_ok-test.ensures.walked e;
+      kept = c.in_ok-test.ensures.kept ∙ c.loop-arm.invariant.kept;
+      turns = omega (arith, c.in_ok-test.ensures.turns, c.loop-arm.invariant.turns);
     }
 
-pub walk_stmt-walk_block-requires-in-Some : goal.walk_stmt-walk_block-requires-in-Some
-walk_stmt-walk_block-requires-in-Some g t c κs within =
-    let fit = otherwise_fits c.args.view.now _ _ _ _ c.in-If.is c.in-Some.is c.requires.fits in
+pub walk_if-walk_block-requires-in-Some : goal.walk_if-walk_block-requires-in-Some
+walk_if-walk_block-requires-in-Some g t c κs within =
+    let fit = otherwise_fits c.args.view.now _ _ _ _ refl c.in-Some.is c.requires.fits in
     let same : IsServed c.args.view.now (g.P.Port.fixed c.loop-arm.port).setting = rw c.loop-arm.invariant.kept c.requires.served in
     (search (rules, stmts.the_lemmas, blocks.the_lemmas), (within.0, (within.1, (same, fit))))
 
@@ -120,25 +121,25 @@ walk_stmt-returns-in-Print-clause-walked g t c =
     let shown = simp to_z-of_z at c.print.ensures.walked in
     Walked-stmt _ _ _ _ _ _ _ _ (print_stmt _ _ _ _ c.in-Print.is) (shown _)
 
-pub walk_stmt-returns-in-Some-clause-walked : goal.walk_stmt-returns-in-Some-clause-walked
-walk_stmt-returns-in-Some-clause-walked g t c =
-    Left-Walked (stmt_does c.args.s.now) (scene_in c.args.view.now) c.args.frame.now (block_does c.in-Some.block) _ _ _ _ _ _ (Left-is _ _ _ _ _ (arms-end _ _ _ _ _ _ _ _ c.loop-arm-test.false c.loop-arm.invariant.left) (ap (λ (o : Option TypedBlock). block_or_next (option_map block_does o) (scene_in c.args.view.now) c.loop-arm.frame) c.in-Some.is)) c.walk_block-in-Some.ensures.walked
+pub walk_if-returns-in-Some-clause-walked : goal.walk_if-returns-in-Some-clause-walked
+walk_if-returns-in-Some-clause-walked g t c =
+    Left-Walked (stmt_does (If c.args.arms.now c.args.otherwise.now)) (scene_in c.args.view.now) c.args.frame.now (block_does c.in-Some.block) _ _ _ _ _ _ (Left-is _ _ _ _ _ (arms-end _ _ _ _ _ _ _ _ c.loop-arm-test.false c.loop-arm.invariant.left) (ap (λ (o : Option TypedBlock). block_or_next (option_map block_does o) (scene_in c.args.view.now) c.loop-arm.frame) c.in-Some.is)) c.walk_block-in-Some.ensures.walked
 
-pub walk_stmt-returns-in-Some-clause-kept : goal.walk_stmt-returns-in-Some-clause-kept
-walk_stmt-returns-in-Some-clause-kept g t c = c.walk_block-in-Some.ensures.kept ∙ c.loop-arm.invariant.kept
+pub walk_if-returns-in-Some-clause-kept : goal.walk_if-returns-in-Some-clause-kept
+walk_if-returns-in-Some-clause-kept g t c = c.walk_block-in-Some.ensures.kept ∙ c.loop-arm.invariant.kept
 
-pub walk_stmt-returns-in-Some-clause-turns : goal.walk_stmt-returns-in-Some-clause-turns
-walk_stmt-returns-in-Some-clause-turns g t c = omega (arith, c.walk_block-in-Some.ensures.turns, c.loop-arm.invariant.turns)
+pub walk_if-returns-in-Some-clause-turns : goal.walk_if-returns-in-Some-clause-turns
+walk_if-returns-in-Some-clause-turns g t c = omega (arith, c.walk_block-in-Some.ensures.turns, c.loop-arm.invariant.turns)
 
-pub walk_stmt-returns-in-None-clause-walked : goal.walk_stmt-returns-in-None-clause-walked
-walk_stmt-returns-in-None-clause-walked g t c =
+pub walk_if-returns-in-None-clause-walked : goal.walk_if-returns-in-None-clause-walked
+walk_if-returns-in-None-clause-walked g t c =
     done_with _ _ _ _ _ _ _ (ap (λ (o : Option TypedBlock). block_or_next (option_map block_does o)) c.in-None.is) (arms-end _ _ _ _ _ _ _ _ c.loop-arm-test.false c.loop-arm.invariant.left)
 
-pub walk_stmt-returns-in-None-clause-kept : goal.walk_stmt-returns-in-None-clause-kept
-walk_stmt-returns-in-None-clause-kept g t c = c.loop-arm.invariant.kept
+pub walk_if-returns-in-None-clause-kept : goal.walk_if-returns-in-None-clause-kept
+walk_if-returns-in-None-clause-kept g t c = c.loop-arm.invariant.kept
 
-pub walk_stmt-returns-in-None-clause-turns : goal.walk_stmt-returns-in-None-clause-turns
-walk_stmt-returns-in-None-clause-turns g t c = c.loop-arm.invariant.turns
+pub walk_if-returns-in-None-clause-turns : goal.walk_if-returns-in-None-clause-turns
+walk_if-returns-in-None-clause-turns g t c = c.loop-arm.invariant.turns
 
 pub walk_turn-returns-then-frame-eq0-clause-walked : goal.walk_turn-returns-then-frame-eq0-clause-walked
 walk_turn-returns-then-frame-eq0-clause-walked g t c = (Walked-next _ _ _ _ _ _ _ _ (Looked-done _ 0 _ _ _ c.if-frame-eq0.true) _ _ _ (c.cut.ensures.made _ _))
@@ -452,3 +453,16 @@ walk_while-returns-else-holds-clause-kept g t c = c.in_ok-value.ensures.kept ∙
 
 pub walk_while-returns-else-holds-clause-turns : goal.walk_while-returns-else-holds-clause-turns
 walk_while-returns-else-holds-clause-turns g t c = omega (arith, c.in_ok-value.ensures.turns, c.loop-value.invariant.turns)
+
+pub walk_stmt-walk_if-requires : goal.walk_stmt-walk_if-requires
+walk_stmt-walk_if-requires g t c κs within =
+    (search (rules, stmts.the_lemmas, blocks.the_lemmas), (within.0, (within.1, (c.requires.served, subst (λ (s : TypedStmt). StmtFits c.args.view.now s) c.in-If.is c.requires.fits))))
+
+pub walk_stmt-returns-in-If-clause-walked : goal.walk_stmt-returns-in-If-clause-walked
+walk_stmt-returns-in-If-clause-walked g t c = Walked-stmt _ _ _ _ _ _ _ _ (ap stmt_does c.in-If.is) c.walk_if.ensures.walked
+
+pub walk_stmt-returns-in-If-clause-kept : goal.walk_stmt-returns-in-If-clause-kept
+walk_stmt-returns-in-If-clause-kept g t c = c.walk_if.ensures.kept
+
+pub walk_stmt-returns-in-If-clause-turns : goal.walk_stmt-returns-in-If-clause-turns
+walk_stmt-returns-in-If-clause-turns g t c = c.walk_if.ensures.turns
