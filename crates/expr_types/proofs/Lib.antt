@@ -2,6 +2,7 @@ pub mod Trees
 pub mod Operands
 pub mod Judging
 pub mod Growing
+pub mod Learning
 pub mod Finding
 pub mod Later
 pub mod Composing
