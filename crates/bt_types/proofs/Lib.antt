@@ -3,6 +3,7 @@ pub mod Numbers
 pub mod MapStatements
 pub mod MapCalls
 pub mod StmtLayers
+pub mod Arms
 pub mod Printing
 pub mod Runs
 pub mod Loops

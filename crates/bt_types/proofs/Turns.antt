@@ -15,7 +15,7 @@ use Rattle.expr_types.specs.Walk.{Seen, MapSeen, at}
 use Rattle.typed_tree.specs.Parts.{TreePart, Made, parts_in}
 use Rattle.expr_types.specs.Typing.{Fits, AllFit, titles_of, word_of, words_by}
 use Rattle.expr_types.specs.Checked.{Checked, KeyChecked}
-use Rattle.bt_types.specs.Told.{Told, next, says, asks, value_told}
+use Rattle.bt_types.specs.Told.{Told, told, next, says, asks, value_told}
 use Rattle.bt_types.specs.Done.{Done, Does, DoesIn}
 use Rattle.expr_types.proofs.Judging.{judged_ok, judged_err}
 use Rattle.expr_types.proofs.Growing.{grows_none, grows_on, grows_learn, IsInner}
@@ -96,6 +96,9 @@ held_done t a b ps d = record { fits = d.fits; written = d.written }
 -- what went and what is held is done
 pub done_of : (t : Told) (a b : Known) (ps : List TreePart) → Went t.points a b → Held b ps t.words → Done t a b ps
 done_of t a b ps w h = record { whole = w.whole; grows = w.grows; fits = h.fits; written = h.written }
+
+pub nothing_done : (k : Known) → Done (told [] []) k k []
+nothing_done k = done_of (told [] []) k k [] (went_none k) (held_none k)
 
 pub done_next : (s t : Told) (k0 k1 k2 : Known) (ps qs : List TreePart) → Done s k0 k1 ps → Done t k1 k2 qs → Done (next s t) k0 k2 (ps ++ qs)
 done_next s t k0 k1 k2 ps qs c d =

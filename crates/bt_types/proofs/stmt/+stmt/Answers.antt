@@ -1,4 +1,4 @@
-use Rattle.std.proofs.Common.{◌+◌, ◌∷◌, [], List, Bool, true, map, take, option_map, FitsSigned, w64, arith, refl, sym, subst}
+use Rattle.std.proofs.Common.{◌+◌, ◌∷◌, [], List, Bool, true, Ok, map, take, option_map, FitsSigned, w64, arith, refl, sym, subst}
 use Rattle.std.proofs.lemmas.Int.{to_z-of_z}
 use Rattle.std.proofs.lemmas.Result.{MatchResult-at_err, MatchResult-at_ok, MatchResult-weaker}
 use Rattle.bt_ast.specs.declared.expr.Expr.{Expr}
@@ -7,16 +7,22 @@ use Rattle.bt_ast.specs.declared.stmt.Stmt.{Stmt}
 use Rattle.typed_tree.specs.declared.expr.NumExpr.{NumExpr}
 use Rattle.typed_tree.specs.declared.stmt.TypedStmt.{TypedStmt}
 use Rattle.typed_tree.specs.declared.stmt.TypedBlock.{TypedBlock}
-use Rattle.expr_types.specs.Mentions.{ArmWord, WhileWord, EndWord}
+use Rattle.expr_types.specs.Mentions.{ArmWord, WhileWord, EndWord, JumpWord}
+use Rattle.expr_types.specs.Walk.{of_expr, of_map, of_step, of_target}
+use Rattle.bt_ast.specs.declared.stmt.StmtKind.TheVariants as kinds
+use Rattle.typed_tree.specs.declared.stmt.Jump.TheVariants.{Exit, Return}
+use Rattle.typed_tree.specs.declared.stmt.TypedStmt.TheVariants as typed
 use Rattle.expr_types.specs.Judge.{judged, SaysFault}
 use Rattle.typed_tree.specs.Parts.{TreePart, Arm, Looped, Ending, num_parts, joined, arm_parts, otherwise_parts, stmt_parts, block_parts}
-use Rattle.bt_types.specs.Told.{Told, says, told_in_turn, condition_told, arm_told, otherwise_told, if_told, while_told, unroll_told, block_told, of_block, of_stmt}
-use Rattle.bt_types.specs.Done.{Done}
-use Rattle.bt_types.proofs.Turns.{done_in, done_next, done_says, fault_in, refused_front, refused_next, does_err, does_in_err}
+use Rattle.bt_types.specs.Told.{Told, assign_told, clear_told, delete_told, gather_told, gathered_told, kind_of_call, number_of_call, printf_told, value_told, zero_told}
+use Rattle.bt_types.specs.Told.{says, told_in_turn, condition_told, arm_told, otherwise_told, if_told, while_told, unroll_told, block_told, of_block, of_stmt}
+use Rattle.bt_types.specs.Done.{Done, DoesIn}
+use Rattle.bt_types.proofs.Turns.{nothing_done, done_in, done_next, done_says, fault_in, refused_front, refused_next, does_err, does_in_err}
 use Rattle.bt_types.proofs.Runs.{run_more, run_refused, run_ends}
 use Rattle.bt_types.proofs.Closing.{told_beside}
 use Rattle.bt_types.proofs.Loops.{worded_done, worded_first, worded_second, unroll_done, unroll_first, unroll_refused}
-use Rattle.bt_types.proofs.StmtLayers.{block_is, if_is, while_stmt, unroll_stmt, block_of, if_stmt}
+use Rattle.bt_types.proofs.Arms.{arm_does, arm_does_in, jump_does, gather_is, assign_is, step_is, printf_is, clear_is, zero_is, delete_is, delete_key_is, exit_is, return_is}
+use Rattle.bt_types.proofs.StmtLayers.{block_is, if_is, while_is, while_stmt, unroll_stmt, block_of, if_stmt}
 use Rattle.bt_types.proofs.stmt.+stmt.Goals as goal
 
 pub check_stmts-returns-in_err-typed : goal.check_stmts-returns-in_err-typed
@@ -145,3 +151,71 @@ check_kind-returns-in_ok-arms-in-If t c =
     let done = done_in (otherwise_told other) (λ b. otherwise_parts (option_map (λ b. block_parts b c.args.inside) b)) c.loop-arm.known c.check_otherwise-otherwise.new.known c.check_otherwise-otherwise.result c.in_ok-arms-in-If.otherwise c.in_ok-arms-in-If.ensures.1 c.check_otherwise-otherwise.ensures in
     rw c.in-If.is (rw (if_is c.in-If.arms c.in-If.otherwise c.args.inside c.args.place, c.in_ok-arms-in-If.ensures.0, if_stmt c.loop-arm.all c.in_ok-arms-in-If.otherwise c.args.inside)
     (done_next (told_in_turn (map (arm_at c.args.inside) c.in-If.arms)) (otherwise_told other) c.args.known.now c.loop-arm.known c.check_otherwise-otherwise.new.known parts (otherwise_parts (option_map (λ b. block_parts b c.args.inside) c.in_ok-arms-in-If.otherwise)) arms done))
+
+pub check_kind-returns-in-SetAgg : goal.check_kind-returns-in-SetAgg
+check_kind-returns-in-SetAgg t c =
+    arm_does_in c.args.kind.now (kinds.SetAgg c.in-SetAgg.map c.in-SetAgg.agg c.in-SetAgg.agg_place) (gather_told (of_map c.in-SetAgg.map) (kind_of_call c.in-SetAgg.agg) (gathered_told (number_of_call c.in-SetAgg.agg) c.in-SetAgg.agg_place) c.in-SetAgg.agg_place) c.args.inside c.args.place c.args.known.now c.check_gather.new.known c.check_gather.result c.in-SetAgg.is
+    (gather_is c.in-SetAgg.map c.in-SetAgg.agg c.in-SetAgg.agg_place c.args.inside c.args.place) c.check_gather.ensures
+
+pub check_kind-returns-in-Assign : goal.check_kind-returns-in-Assign
+check_kind-returns-in-Assign t c =
+    arm_does_in c.args.kind.now (kinds.Assign c.in-Assign.target c.in-Assign.op c.in-Assign.value) (assign_told c.in-Assign.op (of_target c.in-Assign.target) (of_expr c.in-Assign.value) c.args.place) c.args.inside c.args.place c.args.known.now c.check_assign.new.known c.check_assign.result c.in-Assign.is
+    (assign_is c.in-Assign.target c.in-Assign.op c.in-Assign.value c.args.inside c.args.place) c.check_assign.ensures
+
+pub check_kind-returns-in-Step : goal.check_kind-returns-in-Step
+check_kind-returns-in-Step t c =
+    arm_does_in c.args.kind.now (kinds.Step c.in-Step.step) (value_told (of_step c.in-Step.step)) c.args.inside c.args.place c.args.known.now c.check_step_stmt.new.known c.check_step_stmt.result c.in-Step.is
+    (step_is c.in-Step.step c.args.inside c.args.place) c.check_step_stmt.ensures
+
+pub check_kind-returns-in-Printf : goal.check_kind-returns-in-Printf
+check_kind-returns-in-Printf t c =
+    arm_does_in c.args.kind.now (kinds.Printf c.in-Printf.format c.in-Printf.format_place c.in-Printf.values) (printf_told c.in-Printf.format c.in-Printf.format_place (map of_expr c.in-Printf.values)) c.args.inside c.args.place c.args.known.now c.check_printf.new.known c.check_printf.result c.in-Printf.is
+    (printf_is c.in-Printf.format c.in-Printf.format_place c.in-Printf.values c.args.inside c.args.place) (subst (λ (vs : List Expr). DoesIn (printf_told c.in-Printf.format c.in-Printf.format_place (map of_expr vs)) stmt_parts c.args.known.now c.check_printf.new.known c.check_printf.result)
+    c.as_slice.ensures c.check_printf.ensures)
+
+pub check_kind-returns-in-Clear : goal.check_kind-returns-in-Clear
+check_kind-returns-in-Clear t c =
+    arm_does_in c.args.kind.now (kinds.Clear c.in-Clear.map) (clear_told (of_map c.in-Clear.map)) c.args.inside c.args.place c.args.known.now c.check_clear.new.known c.check_clear.result c.in-Clear.is
+    (clear_is c.in-Clear.map c.args.inside c.args.place) c.check_clear.ensures
+
+pub check_kind-returns-in-Zero : goal.check_kind-returns-in-Zero
+check_kind-returns-in-Zero t c =
+    arm_does_in c.args.kind.now (kinds.Zero c.in-Zero.map) (zero_told (of_map c.in-Zero.map)) c.args.inside c.args.place c.args.known.now c.check_zero.new.known c.check_zero.result c.in-Zero.is
+    (zero_is c.in-Zero.map c.args.inside c.args.place) c.check_zero.ensures
+
+pub check_kind-returns-in-Delete : goal.check_kind-returns-in-Delete
+check_kind-returns-in-Delete t c =
+    arm_does_in c.args.kind.now (kinds.Delete c.in-Delete.map) (delete_told (of_map c.in-Delete.map) [] c.args.place) c.args.inside c.args.place c.args.known.now c.check_delete.new.known c.check_delete.result c.in-Delete.is
+    (delete_is c.in-Delete.map c.args.inside c.args.place) c.check_delete.ensures
+
+pub check_kind-returns-in-DeleteKey : goal.check_kind-returns-in-DeleteKey
+check_kind-returns-in-DeleteKey t c =
+    arm_does_in c.args.kind.now (kinds.DeleteKey c.in-DeleteKey.map c.in-DeleteKey.key) (delete_told (of_map c.in-DeleteKey.map) (of_expr c.in-DeleteKey.key ∷ []) c.args.place) c.args.inside c.args.place c.args.known.now c.check_delete_key.new.known c.check_delete_key.result c.in-DeleteKey.is
+    (delete_key_is c.in-DeleteKey.map c.in-DeleteKey.key c.args.inside c.args.place) c.check_delete_key.ensures
+
+pub check_kind-returns-in-While : goal.check_kind-returns-in-While
+check_kind-returns-in-While t c =
+    arm_does_in c.args.kind.now (kinds.While c.in-While.condition c.in-While.block) (while_told c.args.place c.in-While.condition (of_block c.in-While.block true)) c.args.inside c.args.place c.args.known.now c.check_while.new.known c.check_while.result c.in-While.is
+    (while_is c.in-While.condition c.in-While.block c.args.inside c.args.place) c.check_while.ensures
+
+pub check_kind-returns-in-Exit : goal.check_kind-returns-in-Exit
+check_kind-returns-in-Exit t c =
+    arm_does c.args.kind.now kinds.Exit (says (JumpWord Exit)) c.args.inside c.args.place c.args.known.now c.args.known.now (Ok (typed.Jump Exit)) c.in-Exit.is
+    (exit_is c.args.inside c.args.place) (jump_does Exit c.args.inside c.args.known.now refl)
+
+pub check_kind-returns-in-Return : goal.check_kind-returns-in-Return
+check_kind-returns-in-Return t c =
+    arm_does c.args.kind.now kinds.Return (says (JumpWord Return)) c.args.inside c.args.place c.args.known.now c.args.known.now (Ok (typed.Jump Return)) c.in-Return.is
+    (return_is c.args.inside c.args.place) (jump_does Return c.args.inside c.args.known.now refl)
+
+pub check_stmts-loop-stmt-init : goal.check_stmts-loop-stmt-init
+check_stmts-loop-stmt-init t c =
+    let k = c.args.known.now in
+    subst (λ (all : List TypedStmt). Done (told_in_turn (map (λ s. of_stmt s c.args.inside) (take 0 c.args.stmts.now))) k k (joined (map (λ s. stmt_parts s c.args.inside) all)))
+    (sym c.new-all.ensures) (nothing_done k)
+
+pub check_kind-loop-arm-init : goal.check_kind-loop-arm-init
+check_kind-loop-arm-init t c =
+    let k = c.args.known.now in
+    subst (λ (all : List (NumExpr × TypedBlock)). Done (told_in_turn (map (arm_at c.args.inside) (take 0 c.as_slice-arm-items.result.now))) k k (joined (map (parts_at c.args.inside) all)))
+    (sym c.new-all.ensures) (nothing_done k)
