@@ -4,6 +4,7 @@ ghost use Rattle.std.specs.Str.{bytes_eq};
 ghost use Rattle.bt_core.specs.declared.map.MapKind.TheVariants as kinds;
 ghost use Rattle.bt_core.specs.declared.value.Value.TheVariants as values;
 ghost use Rattle.bt_core.specs.Kinds.{HasShape, IsOfShape, IsAggregation};
+ghost use Rattle.typed_tree.specs.declared.expr.NumExpr.TheVariants as nums;
 ghost use Rattle.typed_tree.specs.Parts.{made_of, num_parts, str_parts, parts_in, key_shapes};
 ghost use Rattle.walk_meaning.specs.Exprs.{value_does, values_do, number_does, text_does, step_at, read, read_agg};
 ghost use Rattle.typed_tree.specs.Scope.{decl_of, is_summed, is_there};
@@ -17,10 +18,12 @@ ghost use Rattle.walk_meaning.specs.Served.{all_made, IsServed, Fits, NamesShare
 use crate::access::{assign, set, truth, variable};
 use crate::view::kind_in_body;
 use bt_core::arithmetic::{binary, unary};
+use bt_core::boxed::Boxed;
 use bt_core::items::Items;
 use bt_core::key::Key;
 use bt_core::map::MapId;
 use bt_core::memory::{Memory, TryCopy};
+use bt_core::operator::BinOp;
 use bt_core::port::Port;
 use bt_core::text::Str64;
 use bt_core::value::Value;
@@ -103,41 +106,135 @@ pub fn number<P: Port>(
             Ok(unary(*op, a))
         }
         NumExpr::Binary { op, left, right } => {
-            let a = number(alloc, view, left.get(), frame, port)?;
-            let b = number(alloc, view, right.get(), frame, port)?;
-            Ok(binary(*op, a, b))
+            number_binary(alloc, view, *op, left, right, frame, port)
         }
         NumExpr::Compare { equal, left, right } => {
-            let a = text(alloc, view, left.get(), frame, port)?;
-            let b = text(alloc, view, right.get(), frame, port)?;
-            Ok(truth(compared(*equal, &a, &b)))
+            number_compare(alloc, view, *equal, left, right, frame, port)
         }
-        NumExpr::AndThen { left, right } => {
-            let a = number(alloc, view, left.get(), frame, port)?;
-            if holds(a) {
-                let b = number(alloc, view, right.get(), frame, port)?;
-                Ok(truth(holds(b)))
-            } else {
-                Ok(0)
-            }
-        }
-        NumExpr::OrElse { left, right } => {
-            let a = number(alloc, view, left.get(), frame, port)?;
-            if holds(a) {
-                Ok(1)
-            } else {
-                let b = number(alloc, view, right.get(), frame, port)?;
-                Ok(truth(holds(b)))
-            }
-        }
+        NumExpr::AndThen { left, right } => number_and(alloc, view, left, right, frame, port),
+        NumExpr::OrElse { left, right } => number_or(alloc, view, left, right, frame, port),
         NumExpr::Choose { condition, yes, no } => {
-            let test = number(alloc, view, condition.get(), frame, port)?;
-            if holds(test) {
-                number(alloc, view, yes.get(), frame, port)
-            } else {
-                number(alloc, view, no.get(), frame, port)
-            }
+            number_choose(alloc, view, condition, yes, no, frame, port)
         }
+    }
+}
+
+/// Evaluates two whole numbers with an operator between them.
+#[cycle(value)]
+fn number_binary<P: Port>(
+    alloc: Global,
+    view: &View<'_>,
+    op: BinOp,
+    left: &Boxed<NumExpr>,
+    right: &Boxed<NumExpr>,
+    frame: &mut Frame,
+    port: &mut P,
+) -> Result<i64, Memory>
+    requires served { IsServed view.now (P.fixed port.old).setting }
+    requires fits { Fits view.now (num_parts (nums.Binary op left.now right.now)) }
+    ensures walked { Walked (number_does (nums.Binary op left.now right.now)) (scene_in view.now) frame.old (P.steps port.old) (P.steps port.new) result frame.new }
+    ensures kept { P.fixed port.new ≡ P.fixed port.old }
+    ensures turns { frame.new.turns ≡ frame.old.turns }
+{
+    let a = number(alloc, view, left.get(), frame, port)?;
+    let b = number(alloc, view, right.get(), frame, port)?;
+    Ok(binary(op, a, b))
+}
+
+/// Evaluates two strings that are compared.
+#[cycle(value)]
+fn number_compare<P: Port>(
+    alloc: Global,
+    view: &View<'_>,
+    equal: bool,
+    left: &Boxed<StrExpr>,
+    right: &Boxed<StrExpr>,
+    frame: &mut Frame,
+    port: &mut P,
+) -> Result<i64, Memory>
+    requires served { IsServed view.now (P.fixed port.old).setting }
+    requires fits { Fits view.now (num_parts (nums.Compare equal left.now right.now)) }
+    ensures walked { Walked (number_does (nums.Compare equal left.now right.now)) (scene_in view.now) frame.old (P.steps port.old) (P.steps port.new) result frame.new }
+    ensures kept { P.fixed port.new ≡ P.fixed port.old }
+    ensures turns { frame.new.turns ≡ frame.old.turns }
+{
+    let a = text(alloc, view, left.get(), frame, port)?;
+    let b = text(alloc, view, right.get(), frame, port)?;
+    Ok(truth(compared(equal, &a, &b)))
+}
+
+/// Evaluates `left && right`.
+#[cycle(value)]
+fn number_and<P: Port>(
+    alloc: Global,
+    view: &View<'_>,
+    left: &Boxed<NumExpr>,
+    right: &Boxed<NumExpr>,
+    frame: &mut Frame,
+    port: &mut P,
+) -> Result<i64, Memory>
+    requires served { IsServed view.now (P.fixed port.old).setting }
+    requires fits { Fits view.now (num_parts (nums.AndThen left.now right.now)) }
+    ensures walked { Walked (number_does (nums.AndThen left.now right.now)) (scene_in view.now) frame.old (P.steps port.old) (P.steps port.new) result frame.new }
+    ensures kept { P.fixed port.new ≡ P.fixed port.old }
+    ensures turns { frame.new.turns ≡ frame.old.turns }
+{
+    let a = number(alloc, view, left.get(), frame, port)?;
+    if holds(a) {
+        let b = number(alloc, view, right.get(), frame, port)?;
+        Ok(truth(holds(b)))
+    } else {
+        Ok(0)
+    }
+}
+
+/// Evaluates `left || right`.
+#[cycle(value)]
+fn number_or<P: Port>(
+    alloc: Global,
+    view: &View<'_>,
+    left: &Boxed<NumExpr>,
+    right: &Boxed<NumExpr>,
+    frame: &mut Frame,
+    port: &mut P,
+) -> Result<i64, Memory>
+    requires served { IsServed view.now (P.fixed port.old).setting }
+    requires fits { Fits view.now (num_parts (nums.OrElse left.now right.now)) }
+    ensures walked { Walked (number_does (nums.OrElse left.now right.now)) (scene_in view.now) frame.old (P.steps port.old) (P.steps port.new) result frame.new }
+    ensures kept { P.fixed port.new ≡ P.fixed port.old }
+    ensures turns { frame.new.turns ≡ frame.old.turns }
+{
+    let a = number(alloc, view, left.get(), frame, port)?;
+    if holds(a) {
+        Ok(1)
+    } else {
+        let b = number(alloc, view, right.get(), frame, port)?;
+        Ok(truth(holds(b)))
+    }
+}
+
+/// Evaluates `condition ? yes : no` of whole numbers.
+#[cycle(value)]
+fn number_choose<P: Port>(
+    alloc: Global,
+    view: &View<'_>,
+    condition: &Boxed<NumExpr>,
+    yes: &Boxed<NumExpr>,
+    no: &Boxed<NumExpr>,
+    frame: &mut Frame,
+    port: &mut P,
+) -> Result<i64, Memory>
+    requires served { IsServed view.now (P.fixed port.old).setting }
+    requires fits { Fits view.now (num_parts (nums.Choose condition.now yes.now no.now)) }
+    ensures walked { Walked (number_does (nums.Choose condition.now yes.now no.now)) (scene_in view.now) frame.old (P.steps port.old) (P.steps port.new) result frame.new }
+    ensures kept { P.fixed port.new ≡ P.fixed port.old }
+    ensures turns { frame.new.turns ≡ frame.old.turns }
+{
+    let test = number(alloc, view, condition.get(), frame, port)?;
+    if holds(test) {
+        number(alloc, view, yes.get(), frame, port)
+    } else {
+        number(alloc, view, no.get(), frame, port)
     }
 }
 

@@ -1,10 +1,10 @@
-use Rattle.std.proofs.Common.{◌≤◌, ℤ, refl, sym, ap, ◌∙◌, SFits, w64, rules, arith}
+use Rattle.std.proofs.Common.{◌≤◌, ℤ, refl, sym, ap, subst, ◌∙◌, SFits, w64, rules, arith}
 use Rattle.std.proofs.lemmas.Int.{to_z-of_z}
 use Rattle.std.proofs.lemmas.Result.{err_from_is_err_and}
 use Rattle.bt_core.specs.declared.map.Shape.TheVariants as shapes
 use Rattle.bt_core.specs.declared.value.Value.TheVariants.{Int}
 use Rattle.bt_core.specs.Arithmetic.{truth}
-use Rattle.typed_tree.specs.Parts.{made_of, key_shapes}
+use Rattle.typed_tree.specs.Parts.{made_of, num_parts, key_shapes}
 use Rattle.typed_tree.specs.Scope.{decl_of}
 use Rattle.map_ops.specs.Values.{number_of, text_of, holds}
 use Rattle.walk_meaning.specs.Served.{Fits, IsServed, all_made}
@@ -20,6 +20,9 @@ use Rattle.walk_meaning.proofs.ExprDoes as does
 use Rattle.bt_walk.proofs.WalkedAs as told
 use Rattle.bt_walk.proofs.Fitting.{unary_fits, binary_fits, compare_fits, and_fits, or_fits, choose_fits, choose_text_fits, num_same, str_same, served_still}
 use Rattle.typed_tree.specs.declared.expr.NumExpr as nums
+use Rattle.typed_tree.specs.declared.expr.NumExpr.{NumExpr}
+use Rattle.typed_tree.specs.declared.expr.NumExpr.TheVariants as exprs
+use Rattle.walk_meaning.specs.Exprs.{number_does}
 use Rattle.typed_tree.specs.declared.expr.StrExpr as strs
 use Rattle.bt_walk.proofs.value.+value.Goals as goal
 
@@ -55,56 +58,56 @@ number-returns-in_err-a-in-Unary-clause-walked g t c =
     let p = err_from_is_err_and c.from_residual-in_err-a-in-Unary.result c.from_residual-in_err-a-in-Unary.ensures.1 in
     Stopped _ _ _ _ p.1 (told.Part-num _ _ _ _ _ _ (does.unary_num _ _ _ _ c.in-Unary.is c.get.ensures) (Part-first _ _ _ _ _ _ c.in_err-a-in-Unary.ensures.walked))
 
-pub number-returns-in_err-a-in-Binary-clause-walked : goal.number-returns-in_err-a-in-Binary-clause-walked
-number-returns-in_err-a-in-Binary-clause-walked g t c =
-    let p = err_from_is_err_and c.from_residual-in_err-a-in-Binary.result c.from_residual-in_err-a-in-Binary.ensures.1 in
-    Stopped _ _ _ _ p.1 (told.Part-num _ _ _ _ _ _ (does.binary_num _ _ _ _ _ _ c.in-Binary.is c.get-in-Binary.ensures refl) (Part-first _ _ _ _ _ _ c.in_err-a-in-Binary.ensures.walked))
+pub number_binary-returns-in_err-a-clause-walked : goal.number_binary-returns-in_err-a-clause-walked
+number_binary-returns-in_err-a-clause-walked g t c =
+    let p = err_from_is_err_and c.from_residual.result c.from_residual.ensures.1 in
+    Stopped _ _ _ _ p.1 (told.Part-num _ _ _ _ _ _ (does.binary_num _ _ _ _ _ _ refl c.get.ensures refl) (Part-first _ _ _ _ _ _ c.in_err-a.ensures.walked))
 
-pub number-returns-in_err-b-in-Binary-clause-walked : goal.number-returns-in_err-b-in-Binary-clause-walked
-number-returns-in_err-b-in-Binary-clause-walked g t c =
-    let p = err_from_is_err_and c.from_residual-in_err-b-in-Binary.result c.from_residual-in_err-b-in-Binary.ensures.1 in
-    Stopped _ _ _ _ p.1 (told.Part-num _ _ _ _ _ _ (does.binary_num _ _ _ _ _ _ c.in-Binary.is c.get-in-Binary.ensures (c.get-in-Binary-2).ensures) (Part-next _ _ _ _ _ _ _ _ c.in_ok-a-in-Binary.ensures.walked _ (Part-first _ _ _ _ _ _ c.in_err-b-in-Binary.ensures.walked)))
+pub number_binary-returns-in_err-b-clause-walked : goal.number_binary-returns-in_err-b-clause-walked
+number_binary-returns-in_err-b-clause-walked g t c =
+    let p = err_from_is_err_and c.from_residual-in_err-b.result c.from_residual-in_err-b.ensures.1 in
+    Stopped _ _ _ _ p.1 (told.Part-num _ _ _ _ _ _ (does.binary_num _ _ _ _ _ _ refl c.get.ensures c.get-2.ensures) (Part-next _ _ _ _ _ _ _ _ c.in_ok-a.ensures.walked _ (Part-first _ _ _ _ _ _ c.in_err-b.ensures.walked)))
 
-pub number-returns-in_err-a-in-Compare-clause-walked : goal.number-returns-in_err-a-in-Compare-clause-walked
-number-returns-in_err-a-in-Compare-clause-walked g t c =
-    let p = err_from_is_err_and c.from_residual-in_err-a-in-Compare.result c.from_residual-in_err-a-in-Compare.ensures.1 in
-    Stopped _ _ _ _ p.1 (told.Part-num _ _ _ _ _ _ (does.compare_num _ _ _ _ _ _ c.in-Compare.is c.get-in-Compare.ensures refl) (Part-first _ _ _ _ _ _ c.in_err-a-in-Compare.ensures.walked))
+pub number_compare-returns-in_err-a-clause-walked : goal.number_compare-returns-in_err-a-clause-walked
+number_compare-returns-in_err-a-clause-walked g t c =
+    let p = err_from_is_err_and c.from_residual.result c.from_residual.ensures.1 in
+    Stopped _ _ _ _ p.1 (told.Part-num _ _ _ _ _ _ (does.compare_num _ _ _ _ _ _ refl c.get.ensures refl) (Part-first _ _ _ _ _ _ c.in_err-a.ensures.walked))
 
-pub number-returns-in_err-b-in-Compare-clause-walked : goal.number-returns-in_err-b-in-Compare-clause-walked
-number-returns-in_err-b-in-Compare-clause-walked g t c =
-    let p = err_from_is_err_and c.from_residual-in_err-b-in-Compare.result c.from_residual-in_err-b-in-Compare.ensures.1 in
-    Stopped _ _ _ _ p.1 (told.Part-num _ _ _ _ _ _ (does.compare_num _ _ _ _ _ _ c.in-Compare.is c.get-in-Compare.ensures (c.get-in-Compare-2).ensures) (Part-next _ _ _ _ _ _ _ _ c.in_ok-a-in-Compare.ensures.walked _ (Part-first _ _ _ _ _ _ c.in_err-b-in-Compare.ensures.walked)))
+pub number_compare-returns-in_err-b-clause-walked : goal.number_compare-returns-in_err-b-clause-walked
+number_compare-returns-in_err-b-clause-walked g t c =
+    let p = err_from_is_err_and c.from_residual-in_err-b.result c.from_residual-in_err-b.ensures.1 in
+    Stopped _ _ _ _ p.1 (told.Part-num _ _ _ _ _ _ (does.compare_num _ _ _ _ _ _ refl c.get.ensures c.get-2.ensures) (Part-next _ _ _ _ _ _ _ _ c.in_ok-a.ensures.walked _ (Part-first _ _ _ _ _ _ c.in_err-b.ensures.walked)))
 
-pub number-returns-in_err-a-in-AndThen-clause-walked : goal.number-returns-in_err-a-in-AndThen-clause-walked
-number-returns-in_err-a-in-AndThen-clause-walked g t c =
-    let p = err_from_is_err_and c.from_residual-in_err-a-in-AndThen.result c.from_residual-in_err-a-in-AndThen.ensures.1 in
-    Stopped _ _ _ _ p.1 (told.Part-num _ _ _ _ _ _ (does.andthen_num _ _ _ _ _ c.in-AndThen.is c.get-in-AndThen.ensures refl) (Part-first _ _ _ _ _ _ c.in_err-a-in-AndThen.ensures.walked))
+pub number_and-returns-in_err-a-clause-walked : goal.number_and-returns-in_err-a-clause-walked
+number_and-returns-in_err-a-clause-walked g t c =
+    let p = err_from_is_err_and c.from_residual.result c.from_residual.ensures.1 in
+    Stopped _ _ _ _ p.1 (told.Part-num _ _ _ _ _ _ (does.andthen_num _ _ _ _ _ refl c.get.ensures refl) (Part-first _ _ _ _ _ _ c.in_err-a.ensures.walked))
 
-pub number-returns-in_err-b-in-AndThen-clause-walked : goal.number-returns-in_err-b-in-AndThen-clause-walked
-number-returns-in_err-b-in-AndThen-clause-walked g t c =
-    let p = err_from_is_err_and c.from_residual-in_err-b-in-AndThen.result c.from_residual-in_err-b-in-AndThen.ensures.1 in
-    let tested : SFits w64 c.in_ok-a-in-AndThen.a = search rules in
-    let test = c.holds.ensures ∙ ap holds (to_z-of_z w64 c.in_ok-a-in-AndThen.a tested) in
+pub number_and-returns-in_err-b-clause-walked : goal.number_and-returns-in_err-b-clause-walked
+number_and-returns-in_err-b-clause-walked g t c =
+    let p = err_from_is_err_and c.from_residual-in_err-b.result c.from_residual-in_err-b.ensures.1 in
+    let tested : SFits w64 c.in_ok-a.a = search rules in
+    let test = c.holds.ensures ∙ ap holds (to_z-of_z w64 c.in_ok-a.a tested) in
     let e = sym test ∙ c.if-holds.true in
-    Stopped _ _ _ _ p.1 (told.Part-num _ _ _ _ _ _ (does.andthen_num _ _ _ _ _ c.in-AndThen.is c.get-in-AndThen.ensures c.get-then-holds.ensures) (Part-next _ _ _ _ _ _ _ _ c.in_ok-a-in-AndThen.ensures.walked _ (Part-yes _ _ _ _ _ _ _ e (Part-first _ _ _ _ _ _ c.in_err-b-in-AndThen.ensures.walked))))
+    Stopped _ _ _ _ p.1 (told.Part-num _ _ _ _ _ _ (does.andthen_num _ _ _ _ _ refl c.get.ensures c.get-then-holds.ensures) (Part-next _ _ _ _ _ _ _ _ c.in_ok-a.ensures.walked _ (Part-yes _ _ _ _ _ _ _ e (Part-first _ _ _ _ _ _ c.in_err-b.ensures.walked))))
 
-pub number-returns-in_err-a-in-OrElse-clause-walked : goal.number-returns-in_err-a-in-OrElse-clause-walked
-number-returns-in_err-a-in-OrElse-clause-walked g t c =
-    let p = err_from_is_err_and c.from_residual-in_err-a-in-OrElse.result c.from_residual-in_err-a-in-OrElse.ensures.1 in
-    Stopped _ _ _ _ p.1 (told.Part-num _ _ _ _ _ _ (does.orelse_num _ _ _ _ _ c.in-OrElse.is c.get-in-OrElse.ensures refl) (Part-first _ _ _ _ _ _ c.in_err-a-in-OrElse.ensures.walked))
+pub number_or-returns-in_err-a-clause-walked : goal.number_or-returns-in_err-a-clause-walked
+number_or-returns-in_err-a-clause-walked g t c =
+    let p = err_from_is_err_and c.from_residual.result c.from_residual.ensures.1 in
+    Stopped _ _ _ _ p.1 (told.Part-num _ _ _ _ _ _ (does.orelse_num _ _ _ _ _ refl c.get.ensures refl) (Part-first _ _ _ _ _ _ c.in_err-a.ensures.walked))
 
-pub number-returns-in_err-b-in-OrElse-clause-walked : goal.number-returns-in_err-b-in-OrElse-clause-walked
-number-returns-in_err-b-in-OrElse-clause-walked g t c =
-    let p = err_from_is_err_and c.from_residual-in_err-b-in-OrElse.result c.from_residual-in_err-b-in-OrElse.ensures.1 in
-    let tested : SFits w64 c.in_ok-a-in-OrElse.a = search rules in
-    let test = c.holds-in-OrElse.ensures ∙ ap holds (to_z-of_z w64 c.in_ok-a-in-OrElse.a tested) in
-    let e = sym test ∙ (c.if-holds-2).false in
-    Stopped _ _ _ _ p.1 (told.Part-num _ _ _ _ _ _ (does.orelse_num _ _ _ _ _ c.in-OrElse.is c.get-in-OrElse.ensures (c.get-else-holds-2).ensures) (Part-next _ _ _ _ _ _ _ _ c.in_ok-a-in-OrElse.ensures.walked _ (Part-no _ _ _ _ _ _ _ e (Part-first _ _ _ _ _ _ c.in_err-b-in-OrElse.ensures.walked))))
+pub number_or-returns-in_err-b-clause-walked : goal.number_or-returns-in_err-b-clause-walked
+number_or-returns-in_err-b-clause-walked g t c =
+    let p = err_from_is_err_and c.from_residual-in_err-b.result c.from_residual-in_err-b.ensures.1 in
+    let tested : SFits w64 c.in_ok-a.a = search rules in
+    let test = c.holds.ensures ∙ ap holds (to_z-of_z w64 c.in_ok-a.a tested) in
+    let e = sym test ∙ c.if-holds.false in
+    Stopped _ _ _ _ p.1 (told.Part-num _ _ _ _ _ _ (does.orelse_num _ _ _ _ _ refl c.get.ensures c.get-else-holds.ensures) (Part-next _ _ _ _ _ _ _ _ c.in_ok-a.ensures.walked _ (Part-no _ _ _ _ _ _ _ e (Part-first _ _ _ _ _ _ c.in_err-b.ensures.walked))))
 
-pub number-returns-in_err-test-in-Choose-clause-walked : goal.number-returns-in_err-test-in-Choose-clause-walked
-number-returns-in_err-test-in-Choose-clause-walked g t c =
-    let p = err_from_is_err_and c.from_residual-in_err-test-in-Choose.result c.from_residual-in_err-test-in-Choose.ensures.1 in
-    Stopped _ _ _ _ p.1 (told.Part-num _ _ _ _ _ _ (does.choose_num _ _ _ _ _ _ _ c.in-Choose.is c.get-in-Choose.ensures refl refl) (Part-first _ _ _ _ _ _ c.in_err-test-in-Choose.ensures.walked))
+pub number_choose-returns-in_err-test-clause-walked : goal.number_choose-returns-in_err-test-clause-walked
+number_choose-returns-in_err-test-clause-walked g t c =
+    let p = err_from_is_err_and c.from_residual.result c.from_residual.ensures.1 in
+    Stopped _ _ _ _ p.1 (told.Part-num _ _ _ _ _ _ (does.choose_num _ _ _ _ _ _ _ refl c.get.ensures refl refl) (Part-first _ _ _ _ _ _ c.in_err-test.ensures.walked))
 
 pub number-returns-in-Number-clause-walked : goal.number-returns-in-Number-clause-walked
 number-returns-in-Number-clause-walked g t c =
@@ -148,66 +151,66 @@ number-returns-in_ok-a-in-Unary-clause-walked g t c =
     let e = simp to_z-of_z at c.unary.ensures in
     (told.Whole-num _ _ _ _ _ _ _ (does.unary_num _ _ _ _ c.in-Unary.is c.get.ensures) (Whole-next _ _ _ _ _ _ _ _ c.in_ok-a-in-Unary.ensures.walked _ _ (Number-done _ _ _ _ _ f (sym e))))
 
-pub number-returns-in_ok-b-in-Binary-clause-walked : goal.number-returns-in_ok-b-in-Binary-clause-walked
-number-returns-in_ok-b-in-Binary-clause-walked g t c =
-    let fa : SFits w64 c.in_ok-a-in-Binary.a = search rules in
-    let fb : SFits w64 c.in_ok-b-in-Binary.b = search rules in
+pub number_binary-returns-clause-walked : goal.number_binary-returns-clause-walked
+number_binary-returns-clause-walked g t c =
+    let fa : SFits w64 c.in_ok-a.a = search rules in
+    let fb : SFits w64 c.in_ok-b.b = search rules in
     let f : SFits w64 c.binary.result = record { sfits = c.binary.type_inv } in
     let e = simp to_z-of_z at c.binary.ensures in
-    (told.Whole-num _ _ _ _ _ _ _ (does.binary_num _ _ _ _ _ _ c.in-Binary.is c.get-in-Binary.ensures (c.get-in-Binary-2).ensures) (Whole-next _ _ _ _ _ _ _ _ c.in_ok-a-in-Binary.ensures.walked _ _ (Whole-next _ _ _ _ _ _ _ _ c.in_ok-b-in-Binary.ensures.walked _ _ (Number-done _ _ _ _ _ f (sym e)))))
+    (told.Whole-num _ _ _ _ _ _ _ (does.binary_num _ _ _ _ _ _ refl c.get.ensures c.get-2.ensures) (Whole-next _ _ _ _ _ _ _ _ c.in_ok-a.ensures.walked _ _ (Whole-next _ _ _ _ _ _ _ _ c.in_ok-b.ensures.walked _ _ (Number-done _ _ _ _ _ f (sym e)))))
 
-pub number-returns-in_ok-b-in-Compare-clause-walked : goal.number-returns-in_ok-b-in-Compare-clause-walked
-number-returns-in_ok-b-in-Compare-clause-walked g t c =
+pub number_compare-returns-clause-walked : goal.number_compare-returns-clause-walked
+number_compare-returns-clause-walked g t c =
     let f : SFits w64 c.truth.result = record { sfits = c.truth.type_inv } in
-    (told.Whole-num _ _ _ _ _ _ _ (does.compare_num _ _ _ _ _ _ c.in-Compare.is c.get-in-Compare.ensures (c.get-in-Compare-2).ensures) (Whole-next _ _ _ _ _ _ _ _ c.in_ok-a-in-Compare.ensures.walked _ _ (Whole-next _ _ _ _ _ _ _ _ c.in_ok-b-in-Compare.ensures.walked _ _ (Number-done _ _ _ _ _ f (sym (c.truth.ensures ∙ ap truth c.compared.ensures))))))
+    (told.Whole-num _ _ _ _ _ _ _ (does.compare_num _ _ _ _ _ _ refl c.get.ensures c.get-2.ensures) (Whole-next _ _ _ _ _ _ _ _ c.in_ok-a.ensures.walked _ _ (Whole-next _ _ _ _ _ _ _ _ c.in_ok-b.ensures.walked _ _ (Number-done _ _ _ _ _ f (sym (c.truth.ensures ∙ ap truth c.compared.ensures))))))
 
-pub number-returns-in_ok-b-in-AndThen-clause-walked : goal.number-returns-in_ok-b-in-AndThen-clause-walked
-number-returns-in_ok-b-in-AndThen-clause-walked g t c =
-    let tested : SFits w64 c.in_ok-a-in-AndThen.a = search rules in
-    let test = c.holds.ensures ∙ ap holds (to_z-of_z w64 c.in_ok-a-in-AndThen.a tested) in
+pub number_and-returns-in_ok-b-clause-walked : goal.number_and-returns-in_ok-b-clause-walked
+number_and-returns-in_ok-b-clause-walked g t c =
+    let tested : SFits w64 c.in_ok-a.a = search rules in
+    let test = c.holds.ensures ∙ ap holds (to_z-of_z w64 c.in_ok-a.a tested) in
     let e = sym test ∙ c.if-holds.true in
-    let fb : SFits w64 c.in_ok-b-in-AndThen.b = search rules in
-    let f : SFits w64 c.truth-then-holds.result = record { sfits = c.truth-then-holds.type_inv } in
-    let right = c.holds-then-holds.ensures ∙ ap holds (to_z-of_z w64 c.in_ok-b-in-AndThen.b fb) in
-    (told.Whole-num _ _ _ _ _ _ _ (does.andthen_num _ _ _ _ _ c.in-AndThen.is c.get-in-AndThen.ensures c.get-then-holds.ensures) (Whole-next _ _ _ _ _ _ _ _ c.in_ok-a-in-AndThen.ensures.walked _ _ (Whole-yes _ _ _ _ _ _ _ _ e (Whole-next _ _ _ _ _ _ _ _ c.in_ok-b-in-AndThen.ensures.walked _ _ (Number-done _ _ _ _ _ f (sym (c.truth-then-holds.ensures ∙ ap truth right)))))))
+    let fb : SFits w64 c.in_ok-b.b = search rules in
+    let f : SFits w64 c.truth.result = record { sfits = c.truth.type_inv } in
+    let right = c.holds-then-holds.ensures ∙ ap holds (to_z-of_z w64 c.in_ok-b.b fb) in
+    (told.Whole-num _ _ _ _ _ _ _ (does.andthen_num _ _ _ _ _ refl c.get.ensures c.get-then-holds.ensures) (Whole-next _ _ _ _ _ _ _ _ c.in_ok-a.ensures.walked _ _ (Whole-yes _ _ _ _ _ _ _ _ e (Whole-next _ _ _ _ _ _ _ _ c.in_ok-b.ensures.walked _ _ (Number-done _ _ _ _ _ f (sym (c.truth.ensures ∙ ap truth right)))))))
 
-pub number-returns-else-holds-clause-walked : goal.number-returns-else-holds-clause-walked
-number-returns-else-holds-clause-walked g t c =
-    let tested : SFits w64 c.in_ok-a-in-AndThen.a = search rules in
-    let test = c.holds.ensures ∙ ap holds (to_z-of_z w64 c.in_ok-a-in-AndThen.a tested) in
+pub number_and-returns-else-holds-clause-walked : goal.number_and-returns-else-holds-clause-walked
+number_and-returns-else-holds-clause-walked g t c =
+    let tested : SFits w64 c.in_ok-a.a = search rules in
+    let test = c.holds.ensures ∙ ap holds (to_z-of_z w64 c.in_ok-a.a tested) in
     let e = sym test ∙ c.if-holds.false in
-    (told.Whole-num _ _ _ _ _ _ _ (does.andthen_num _ _ _ _ _ c.in-AndThen.is c.get-in-AndThen.ensures refl) (Whole-next _ _ _ _ _ _ _ _ c.in_ok-a-in-AndThen.ensures.walked _ _ (Whole-no _ _ _ _ _ _ _ _ e (Given-done _ _ _ _ _ _ refl refl))))
+    (told.Whole-num _ _ _ _ _ _ _ (does.andthen_num _ _ _ _ _ refl c.get.ensures refl) (Whole-next _ _ _ _ _ _ _ _ c.in_ok-a.ensures.walked _ _ (Whole-no _ _ _ _ _ _ _ _ e (Given-done _ _ _ _ _ _ refl refl))))
 
-pub number-returns-then-holds-2-clause-walked : goal.number-returns-then-holds-2-clause-walked
-number-returns-then-holds-2-clause-walked g t c =
-    let tested : SFits w64 c.in_ok-a-in-OrElse.a = search rules in
-    let test = c.holds-in-OrElse.ensures ∙ ap holds (to_z-of_z w64 c.in_ok-a-in-OrElse.a tested) in
-    let e = sym test ∙ (c.if-holds-2).true in
-    (told.Whole-num _ _ _ _ _ _ _ (does.orelse_num _ _ _ _ _ c.in-OrElse.is c.get-in-OrElse.ensures refl) (Whole-next _ _ _ _ _ _ _ _ c.in_ok-a-in-OrElse.ensures.walked _ _ (Whole-yes _ _ _ _ _ _ _ _ e (Given-done _ _ _ _ _ _ refl refl))))
+pub number_or-returns-then-holds-clause-walked : goal.number_or-returns-then-holds-clause-walked
+number_or-returns-then-holds-clause-walked g t c =
+    let tested : SFits w64 c.in_ok-a.a = search rules in
+    let test = c.holds.ensures ∙ ap holds (to_z-of_z w64 c.in_ok-a.a tested) in
+    let e = sym test ∙ c.if-holds.true in
+    (told.Whole-num _ _ _ _ _ _ _ (does.orelse_num _ _ _ _ _ refl c.get.ensures refl) (Whole-next _ _ _ _ _ _ _ _ c.in_ok-a.ensures.walked _ _ (Whole-yes _ _ _ _ _ _ _ _ e (Given-done _ _ _ _ _ _ refl refl))))
 
-pub number-returns-in_ok-b-in-OrElse-clause-walked : goal.number-returns-in_ok-b-in-OrElse-clause-walked
-number-returns-in_ok-b-in-OrElse-clause-walked g t c =
-    let tested : SFits w64 c.in_ok-a-in-OrElse.a = search rules in
-    let test = c.holds-in-OrElse.ensures ∙ ap holds (to_z-of_z w64 c.in_ok-a-in-OrElse.a tested) in
-    let e = sym test ∙ (c.if-holds-2).false in
-    let fb : SFits w64 c.in_ok-b-in-OrElse.b = search rules in
-    let f : SFits w64 (c.truth-else-holds-2).result = record { sfits = (c.truth-else-holds-2).type_inv } in
-    let right = (c.holds-else-holds-2).ensures ∙ ap holds (to_z-of_z w64 c.in_ok-b-in-OrElse.b fb) in
-    (told.Whole-num _ _ _ _ _ _ _ (does.orelse_num _ _ _ _ _ c.in-OrElse.is c.get-in-OrElse.ensures (c.get-else-holds-2).ensures) (Whole-next _ _ _ _ _ _ _ _ c.in_ok-a-in-OrElse.ensures.walked _ _ (Whole-no _ _ _ _ _ _ _ _ e (Whole-next _ _ _ _ _ _ _ _ c.in_ok-b-in-OrElse.ensures.walked _ _ (Number-done _ _ _ _ _ f (sym ((c.truth-else-holds-2).ensures ∙ ap truth right)))))))
+pub number_or-returns-in_ok-b-clause-walked : goal.number_or-returns-in_ok-b-clause-walked
+number_or-returns-in_ok-b-clause-walked g t c =
+    let tested : SFits w64 c.in_ok-a.a = search rules in
+    let test = c.holds.ensures ∙ ap holds (to_z-of_z w64 c.in_ok-a.a tested) in
+    let e = sym test ∙ c.if-holds.false in
+    let fb : SFits w64 c.in_ok-b.b = search rules in
+    let f : SFits w64 c.truth.result = record { sfits = c.truth.type_inv } in
+    let right = c.holds-else-holds.ensures ∙ ap holds (to_z-of_z w64 c.in_ok-b.b fb) in
+    (told.Whole-num _ _ _ _ _ _ _ (does.orelse_num _ _ _ _ _ refl c.get.ensures c.get-else-holds.ensures) (Whole-next _ _ _ _ _ _ _ _ c.in_ok-a.ensures.walked _ _ (Whole-no _ _ _ _ _ _ _ _ e (Whole-next _ _ _ _ _ _ _ _ c.in_ok-b.ensures.walked _ _ (Number-done _ _ _ _ _ f (sym (c.truth.ensures ∙ ap truth right)))))))
 
-pub number-returns-then-holds-3-clause-walked : goal.number-returns-then-holds-3-clause-walked
-number-returns-then-holds-3-clause-walked g t c =
-    let tested : SFits w64 c.in_ok-test-in-Choose.test = search rules in
-    let test = c.holds-in-Choose.ensures ∙ ap holds (to_z-of_z w64 c.in_ok-test-in-Choose.test tested) in
-    let e = sym test ∙ (c.if-holds-3).true in
-    (told.Walked-num _ _ _ _ _ _ _ _ (does.choose_num _ _ _ _ _ _ _ c.in-Choose.is c.get-in-Choose.ensures (c.get-then-holds-3).ensures refl) (Walked-next _ _ _ _ _ _ _ _ c.in_ok-test-in-Choose.ensures.walked _ _ _ (Walked-yes _ _ _ _ _ _ _ _ _ e (c.number-then-holds-3).ensures.walked)))
+pub number_choose-returns-then-holds-clause-walked : goal.number_choose-returns-then-holds-clause-walked
+number_choose-returns-then-holds-clause-walked g t c =
+    let tested : SFits w64 c.in_ok-test.test = search rules in
+    let test = c.holds.ensures ∙ ap holds (to_z-of_z w64 c.in_ok-test.test tested) in
+    let e = sym test ∙ c.if-holds.true in
+    (told.Walked-num _ _ _ _ _ _ _ _ (does.choose_num _ _ _ _ _ _ _ refl c.get.ensures c.get-then-holds.ensures refl) (Walked-next _ _ _ _ _ _ _ _ c.in_ok-test.ensures.walked _ _ _ (Walked-yes _ _ _ _ _ _ _ _ _ e c.number-then-holds.ensures.walked)))
 
-pub number-returns-else-holds-3-clause-walked : goal.number-returns-else-holds-3-clause-walked
-number-returns-else-holds-3-clause-walked g t c =
-    let tested : SFits w64 c.in_ok-test-in-Choose.test = search rules in
-    let test = c.holds-in-Choose.ensures ∙ ap holds (to_z-of_z w64 c.in_ok-test-in-Choose.test tested) in
-    let e = sym test ∙ (c.if-holds-3).false in
-    (told.Walked-num _ _ _ _ _ _ _ _ (does.choose_num _ _ _ _ _ _ _ c.in-Choose.is c.get-in-Choose.ensures refl (c.get-else-holds-3).ensures) (Walked-next _ _ _ _ _ _ _ _ c.in_ok-test-in-Choose.ensures.walked _ _ _ (Walked-no _ _ _ _ _ _ _ _ _ e (c.number-else-holds-3).ensures.walked)))
+pub number_choose-returns-else-holds-clause-walked : goal.number_choose-returns-else-holds-clause-walked
+number_choose-returns-else-holds-clause-walked g t c =
+    let tested : SFits w64 c.in_ok-test.test = search rules in
+    let test = c.holds.ensures ∙ ap holds (to_z-of_z w64 c.in_ok-test.test tested) in
+    let e = sym test ∙ c.if-holds.false in
+    (told.Walked-num _ _ _ _ _ _ _ _ (does.choose_num _ _ _ _ _ _ _ refl c.get.ensures refl c.get-else-holds.ensures) (Walked-next _ _ _ _ _ _ _ _ c.in_ok-test.ensures.walked _ _ _ (Walked-no _ _ _ _ _ _ _ _ _ e c.number-else-holds.ensures.walked)))
 
 pub read-returns-in_err-parts-clause-walked : goal.read-returns-in_err-parts-clause-walked
 read-returns-in_err-parts-clause-walked g t c =
@@ -353,38 +356,38 @@ read_agg-returns-clause-walked g t c =
 pub number-number-requires : goal.number-number-requires
 number-number-requires g t c κs within = (search (rules, nums.the_lemmas), (within.0, (within.1, (c.requires.served, unary_fits c.args.view.now c.args.e.now c.requires.fits _ _ _ c.in-Unary.is c.get.ensures))))
 
-pub number-number-requires-in-Binary : goal.number-number-requires-in-Binary
-number-number-requires-in-Binary g t c κs within = (search (rules, nums.the_lemmas), (within.0, (within.1, (c.requires.served, num_same c.args.view.now _ _ c.get-in-Binary.ensures ((binary_fits c.args.view.now c.args.e.now c.requires.fits _ _ _ c.in-Binary.is).0)))))
+pub number_binary-number-requires : goal.number_binary-number-requires
+number_binary-number-requires g t c κs within = (search (rules, nums.the_lemmas), (within.0, (within.1, (c.requires.served, num_same c.args.view.now _ _ c.get.ensures ((binary_fits c.args.view.now (exprs.Binary c.args.op c.args.left.now c.args.right.now) c.requires.fits _ _ _ refl).0)))))
 
-pub number-number-requires-in-Binary-2 : goal.number-number-requires-in-Binary-2
-number-number-requires-in-Binary-2 g t c κs within = (search (rules, nums.the_lemmas), (within.0, (within.1, (served_still c.args.view.now _ _ c.in_ok-a-in-Binary.ensures.kept c.requires.served, num_same c.args.view.now _ _ (c.get-in-Binary-2).ensures ((binary_fits c.args.view.now c.args.e.now c.requires.fits _ _ _ c.in-Binary.is).1)))))
+pub number_binary-number-requires-2 : goal.number_binary-number-requires-2
+number_binary-number-requires-2 g t c κs within = (search (rules, nums.the_lemmas), (within.0, (within.1, (served_still c.args.view.now _ _ c.in_ok-a.ensures.kept c.requires.served, num_same c.args.view.now _ _ c.get-2.ensures ((binary_fits c.args.view.now (exprs.Binary c.args.op c.args.left.now c.args.right.now) c.requires.fits _ _ _ refl).1)))))
 
-pub number-text-requires : goal.number-text-requires
-number-text-requires g t c κs within = (search (rules, nums.the_lemmas), (within.0, (within.1, (c.requires.served, str_same c.args.view.now _ _ c.get-in-Compare.ensures ((compare_fits c.args.view.now c.args.e.now c.requires.fits _ _ _ c.in-Compare.is).0)))))
+pub number_compare-text-requires : goal.number_compare-text-requires
+number_compare-text-requires g t c κs within = (search (rules, nums.the_lemmas), (within.0, (within.1, (c.requires.served, str_same c.args.view.now _ _ c.get.ensures ((compare_fits c.args.view.now (exprs.Compare c.args.equal c.args.left.now c.args.right.now) c.requires.fits _ _ _ refl).0)))))
 
-pub number-text-requires-in-Compare : goal.number-text-requires-in-Compare
-number-text-requires-in-Compare g t c κs within = (search (rules, nums.the_lemmas), (within.0, (within.1, (served_still c.args.view.now _ _ c.in_ok-a-in-Compare.ensures.kept c.requires.served, str_same c.args.view.now _ _ (c.get-in-Compare-2).ensures ((compare_fits c.args.view.now c.args.e.now c.requires.fits _ _ _ c.in-Compare.is).1)))))
+pub number_compare-text-requires-2 : goal.number_compare-text-requires-2
+number_compare-text-requires-2 g t c κs within = (search (rules, nums.the_lemmas), (within.0, (within.1, (served_still c.args.view.now _ _ c.in_ok-a.ensures.kept c.requires.served, str_same c.args.view.now _ _ c.get-2.ensures ((compare_fits c.args.view.now (exprs.Compare c.args.equal c.args.left.now c.args.right.now) c.requires.fits _ _ _ refl).1)))))
 
-pub number-number-requires-in-AndThen : goal.number-number-requires-in-AndThen
-number-number-requires-in-AndThen g t c κs within = (search (rules, nums.the_lemmas), (within.0, (within.1, (c.requires.served, num_same c.args.view.now _ _ c.get-in-AndThen.ensures ((and_fits c.args.view.now c.args.e.now c.requires.fits _ _ c.in-AndThen.is).0)))))
+pub number_and-number-requires : goal.number_and-number-requires
+number_and-number-requires g t c κs within = (search (rules, nums.the_lemmas), (within.0, (within.1, (c.requires.served, num_same c.args.view.now _ _ c.get.ensures ((and_fits c.args.view.now (exprs.AndThen c.args.left.now c.args.right.now) c.requires.fits _ _ refl).0)))))
 
-pub number-number-requires-then-holds : goal.number-number-requires-then-holds
-number-number-requires-then-holds g t c κs within = (search (rules, nums.the_lemmas), (within.0, (within.1, (served_still c.args.view.now _ _ c.in_ok-a-in-AndThen.ensures.kept c.requires.served, num_same c.args.view.now _ _ c.get-then-holds.ensures ((and_fits c.args.view.now c.args.e.now c.requires.fits _ _ c.in-AndThen.is).1)))))
+pub number_and-number-requires-then-holds : goal.number_and-number-requires-then-holds
+number_and-number-requires-then-holds g t c κs within = (search (rules, nums.the_lemmas), (within.0, (within.1, (served_still c.args.view.now _ _ c.in_ok-a.ensures.kept c.requires.served, num_same c.args.view.now _ _ c.get-then-holds.ensures ((and_fits c.args.view.now (exprs.AndThen c.args.left.now c.args.right.now) c.requires.fits _ _ refl).1)))))
 
-pub number-number-requires-in-OrElse : goal.number-number-requires-in-OrElse
-number-number-requires-in-OrElse g t c κs within = (search (rules, nums.the_lemmas), (within.0, (within.1, (c.requires.served, num_same c.args.view.now _ _ c.get-in-OrElse.ensures ((or_fits c.args.view.now c.args.e.now c.requires.fits _ _ c.in-OrElse.is).0)))))
+pub number_or-number-requires : goal.number_or-number-requires
+number_or-number-requires g t c κs within = (search (rules, nums.the_lemmas), (within.0, (within.1, (c.requires.served, num_same c.args.view.now _ _ c.get.ensures ((or_fits c.args.view.now (exprs.OrElse c.args.left.now c.args.right.now) c.requires.fits _ _ refl).0)))))
 
-pub number-number-requires-else-holds-2 : goal.number-number-requires-else-holds-2
-number-number-requires-else-holds-2 g t c κs within = (search (rules, nums.the_lemmas), (within.0, (within.1, (served_still c.args.view.now _ _ c.in_ok-a-in-OrElse.ensures.kept c.requires.served, num_same c.args.view.now _ _ (c.get-else-holds-2).ensures ((or_fits c.args.view.now c.args.e.now c.requires.fits _ _ c.in-OrElse.is).1)))))
+pub number_or-number-requires-else-holds : goal.number_or-number-requires-else-holds
+number_or-number-requires-else-holds g t c κs within = (search (rules, nums.the_lemmas), (within.0, (within.1, (served_still c.args.view.now _ _ c.in_ok-a.ensures.kept c.requires.served, num_same c.args.view.now _ _ c.get-else-holds.ensures ((or_fits c.args.view.now (exprs.OrElse c.args.left.now c.args.right.now) c.requires.fits _ _ refl).1)))))
 
-pub number-number-requires-in-Choose : goal.number-number-requires-in-Choose
-number-number-requires-in-Choose g t c κs within = (search (rules, nums.the_lemmas), (within.0, (within.1, (c.requires.served, num_same c.args.view.now _ _ c.get-in-Choose.ensures ((choose_fits c.args.view.now c.args.e.now c.requires.fits _ _ _ c.in-Choose.is).0)))))
+pub number_choose-number-requires : goal.number_choose-number-requires
+number_choose-number-requires g t c κs within = (search (rules, nums.the_lemmas), (within.0, (within.1, (c.requires.served, num_same c.args.view.now _ _ c.get.ensures ((choose_fits c.args.view.now (exprs.Choose c.args.condition.now c.args.yes.now c.args.no.now) c.requires.fits _ _ _ refl).0)))))
 
-pub number-number-requires-then-holds-3 : goal.number-number-requires-then-holds-3
-number-number-requires-then-holds-3 g t c κs within = (search (rules, nums.the_lemmas), (within.0, (within.1, (served_still c.args.view.now _ _ c.in_ok-test-in-Choose.ensures.kept c.requires.served, num_same c.args.view.now _ _ (c.get-then-holds-3).ensures ((choose_fits c.args.view.now c.args.e.now c.requires.fits _ _ _ c.in-Choose.is).1.0)))))
+pub number_choose-number-requires-then-holds : goal.number_choose-number-requires-then-holds
+number_choose-number-requires-then-holds g t c κs within = (search (rules, nums.the_lemmas), (within.0, (within.1, (served_still c.args.view.now _ _ c.in_ok-test.ensures.kept c.requires.served, num_same c.args.view.now _ _ c.get-then-holds.ensures ((choose_fits c.args.view.now (exprs.Choose c.args.condition.now c.args.yes.now c.args.no.now) c.requires.fits _ _ _ refl).1.0)))))
 
-pub number-number-requires-else-holds-3 : goal.number-number-requires-else-holds-3
-number-number-requires-else-holds-3 g t c κs within = (search (rules, nums.the_lemmas), (within.0, (within.1, (served_still c.args.view.now _ _ c.in_ok-test-in-Choose.ensures.kept c.requires.served, num_same c.args.view.now _ _ (c.get-else-holds-3).ensures ((choose_fits c.args.view.now c.args.e.now c.requires.fits _ _ _ c.in-Choose.is).1.1)))))
+pub number_choose-number-requires-else-holds : goal.number_choose-number-requires-else-holds
+number_choose-number-requires-else-holds g t c κs within = (search (rules, nums.the_lemmas), (within.0, (within.1, (served_still c.args.view.now _ _ c.in_ok-test.ensures.kept c.requires.served, num_same c.args.view.now _ _ c.get-else-holds.ensures ((choose_fits c.args.view.now (exprs.Choose c.args.condition.now c.args.yes.now c.args.no.now) c.requires.fits _ _ _ refl).1.1)))))
 
 pub text-number-requires : goal.text-number-requires
 text-number-requires g t c κs within = (search (rules, strs.the_lemmas), (within.0, (within.1, (c.requires.served, num_same c.args.view.now _ _ c.get.ensures ((choose_text_fits c.args.view.now c.args.e.now c.requires.fits _ _ _ c.in-Choose.is).0)))))
@@ -458,29 +461,29 @@ number-returns-in_err-a-in-Unary-clause-kept g t c = c.in_err-a-in-Unary.ensures
 pub number-returns-in_err-a-in-Unary-clause-turns : goal.number-returns-in_err-a-in-Unary-clause-turns
 number-returns-in_err-a-in-Unary-clause-turns g t c = c.in_err-a-in-Unary.ensures.turns
 
-pub number-returns-in_err-a-in-Binary-clause-kept : goal.number-returns-in_err-a-in-Binary-clause-kept
-number-returns-in_err-a-in-Binary-clause-kept g t c = c.in_err-a-in-Binary.ensures.kept
+pub number_binary-returns-in_err-a-clause-kept : goal.number_binary-returns-in_err-a-clause-kept
+number_binary-returns-in_err-a-clause-kept g t c = c.in_err-a.ensures.kept
 
-pub number-returns-in_err-a-in-Binary-clause-turns : goal.number-returns-in_err-a-in-Binary-clause-turns
-number-returns-in_err-a-in-Binary-clause-turns g t c = c.in_err-a-in-Binary.ensures.turns
+pub number_binary-returns-in_err-a-clause-turns : goal.number_binary-returns-in_err-a-clause-turns
+number_binary-returns-in_err-a-clause-turns g t c = c.in_err-a.ensures.turns
 
-pub number-returns-in_err-a-in-Compare-clause-kept : goal.number-returns-in_err-a-in-Compare-clause-kept
-number-returns-in_err-a-in-Compare-clause-kept g t c = c.in_err-a-in-Compare.ensures.kept
+pub number_compare-returns-in_err-a-clause-kept : goal.number_compare-returns-in_err-a-clause-kept
+number_compare-returns-in_err-a-clause-kept g t c = c.in_err-a.ensures.kept
 
-pub number-returns-in_err-a-in-Compare-clause-turns : goal.number-returns-in_err-a-in-Compare-clause-turns
-number-returns-in_err-a-in-Compare-clause-turns g t c = c.in_err-a-in-Compare.ensures.turns
+pub number_compare-returns-in_err-a-clause-turns : goal.number_compare-returns-in_err-a-clause-turns
+number_compare-returns-in_err-a-clause-turns g t c = c.in_err-a.ensures.turns
 
-pub number-returns-in_err-a-in-AndThen-clause-kept : goal.number-returns-in_err-a-in-AndThen-clause-kept
-number-returns-in_err-a-in-AndThen-clause-kept g t c = c.in_err-a-in-AndThen.ensures.kept
+pub number_and-returns-in_err-a-clause-kept : goal.number_and-returns-in_err-a-clause-kept
+number_and-returns-in_err-a-clause-kept g t c = c.in_err-a.ensures.kept
 
-pub number-returns-in_err-a-in-AndThen-clause-turns : goal.number-returns-in_err-a-in-AndThen-clause-turns
-number-returns-in_err-a-in-AndThen-clause-turns g t c = c.in_err-a-in-AndThen.ensures.turns
+pub number_and-returns-in_err-a-clause-turns : goal.number_and-returns-in_err-a-clause-turns
+number_and-returns-in_err-a-clause-turns g t c = c.in_err-a.ensures.turns
 
-pub number-returns-in_err-a-in-OrElse-clause-kept : goal.number-returns-in_err-a-in-OrElse-clause-kept
-number-returns-in_err-a-in-OrElse-clause-kept g t c = c.in_err-a-in-OrElse.ensures.kept
+pub number_or-returns-in_err-a-clause-kept : goal.number_or-returns-in_err-a-clause-kept
+number_or-returns-in_err-a-clause-kept g t c = c.in_err-a.ensures.kept
 
-pub number-returns-in_err-a-in-OrElse-clause-turns : goal.number-returns-in_err-a-in-OrElse-clause-turns
-number-returns-in_err-a-in-OrElse-clause-turns g t c = c.in_err-a-in-OrElse.ensures.turns
+pub number_or-returns-in_err-a-clause-turns : goal.number_or-returns-in_err-a-clause-turns
+number_or-returns-in_err-a-clause-turns g t c = c.in_err-a.ensures.turns
 
 pub number-returns-in_ok-a-in-Unary-clause-kept : goal.number-returns-in_ok-a-in-Unary-clause-kept
 number-returns-in_ok-a-in-Unary-clause-kept g t c = c.in_ok-a-in-Unary.ensures.kept
@@ -488,83 +491,83 @@ number-returns-in_ok-a-in-Unary-clause-kept g t c = c.in_ok-a-in-Unary.ensures.k
 pub number-returns-in_ok-a-in-Unary-clause-turns : goal.number-returns-in_ok-a-in-Unary-clause-turns
 number-returns-in_ok-a-in-Unary-clause-turns g t c = c.in_ok-a-in-Unary.ensures.turns
 
-pub number-returns-in_err-b-in-Binary-clause-kept : goal.number-returns-in_err-b-in-Binary-clause-kept
-number-returns-in_err-b-in-Binary-clause-kept g t c = c.in_err-b-in-Binary.ensures.kept ∙ c.in_ok-a-in-Binary.ensures.kept
+pub number_binary-returns-in_err-b-clause-kept : goal.number_binary-returns-in_err-b-clause-kept
+number_binary-returns-in_err-b-clause-kept g t c = c.in_err-b.ensures.kept ∙ c.in_ok-a.ensures.kept
 
-pub number-returns-in_err-b-in-Binary-clause-turns : goal.number-returns-in_err-b-in-Binary-clause-turns
-number-returns-in_err-b-in-Binary-clause-turns g t c = c.in_err-b-in-Binary.ensures.turns ∙ c.in_ok-a-in-Binary.ensures.turns
+pub number_binary-returns-in_err-b-clause-turns : goal.number_binary-returns-in_err-b-clause-turns
+number_binary-returns-in_err-b-clause-turns g t c = c.in_err-b.ensures.turns ∙ c.in_ok-a.ensures.turns
 
-pub number-returns-in_ok-b-in-Binary-clause-kept : goal.number-returns-in_ok-b-in-Binary-clause-kept
-number-returns-in_ok-b-in-Binary-clause-kept g t c = c.in_ok-b-in-Binary.ensures.kept ∙ c.in_ok-a-in-Binary.ensures.kept
+pub number_binary-returns-clause-kept : goal.number_binary-returns-clause-kept
+number_binary-returns-clause-kept g t c = c.in_ok-b.ensures.kept ∙ c.in_ok-a.ensures.kept
 
-pub number-returns-in_ok-b-in-Binary-clause-turns : goal.number-returns-in_ok-b-in-Binary-clause-turns
-number-returns-in_ok-b-in-Binary-clause-turns g t c = c.in_ok-b-in-Binary.ensures.turns ∙ c.in_ok-a-in-Binary.ensures.turns
+pub number_binary-returns-clause-turns : goal.number_binary-returns-clause-turns
+number_binary-returns-clause-turns g t c = c.in_ok-b.ensures.turns ∙ c.in_ok-a.ensures.turns
 
-pub number-returns-in_err-b-in-Compare-clause-kept : goal.number-returns-in_err-b-in-Compare-clause-kept
-number-returns-in_err-b-in-Compare-clause-kept g t c = c.in_err-b-in-Compare.ensures.kept ∙ c.in_ok-a-in-Compare.ensures.kept
+pub number_compare-returns-in_err-b-clause-kept : goal.number_compare-returns-in_err-b-clause-kept
+number_compare-returns-in_err-b-clause-kept g t c = c.in_err-b.ensures.kept ∙ c.in_ok-a.ensures.kept
 
-pub number-returns-in_err-b-in-Compare-clause-turns : goal.number-returns-in_err-b-in-Compare-clause-turns
-number-returns-in_err-b-in-Compare-clause-turns g t c = c.in_err-b-in-Compare.ensures.turns ∙ c.in_ok-a-in-Compare.ensures.turns
+pub number_compare-returns-in_err-b-clause-turns : goal.number_compare-returns-in_err-b-clause-turns
+number_compare-returns-in_err-b-clause-turns g t c = c.in_err-b.ensures.turns ∙ c.in_ok-a.ensures.turns
 
-pub number-returns-in_ok-b-in-Compare-clause-kept : goal.number-returns-in_ok-b-in-Compare-clause-kept
-number-returns-in_ok-b-in-Compare-clause-kept g t c = c.in_ok-b-in-Compare.ensures.kept ∙ c.in_ok-a-in-Compare.ensures.kept
+pub number_compare-returns-clause-kept : goal.number_compare-returns-clause-kept
+number_compare-returns-clause-kept g t c = c.in_ok-b.ensures.kept ∙ c.in_ok-a.ensures.kept
 
-pub number-returns-in_ok-b-in-Compare-clause-turns : goal.number-returns-in_ok-b-in-Compare-clause-turns
-number-returns-in_ok-b-in-Compare-clause-turns g t c = c.in_ok-b-in-Compare.ensures.turns ∙ c.in_ok-a-in-Compare.ensures.turns
+pub number_compare-returns-clause-turns : goal.number_compare-returns-clause-turns
+number_compare-returns-clause-turns g t c = c.in_ok-b.ensures.turns ∙ c.in_ok-a.ensures.turns
 
-pub number-returns-in_err-b-in-AndThen-clause-kept : goal.number-returns-in_err-b-in-AndThen-clause-kept
-number-returns-in_err-b-in-AndThen-clause-kept g t c = c.in_err-b-in-AndThen.ensures.kept ∙ c.in_ok-a-in-AndThen.ensures.kept
+pub number_and-returns-in_err-b-clause-kept : goal.number_and-returns-in_err-b-clause-kept
+number_and-returns-in_err-b-clause-kept g t c = c.in_err-b.ensures.kept ∙ c.in_ok-a.ensures.kept
 
-pub number-returns-in_err-b-in-AndThen-clause-turns : goal.number-returns-in_err-b-in-AndThen-clause-turns
-number-returns-in_err-b-in-AndThen-clause-turns g t c = c.in_err-b-in-AndThen.ensures.turns ∙ c.in_ok-a-in-AndThen.ensures.turns
+pub number_and-returns-in_err-b-clause-turns : goal.number_and-returns-in_err-b-clause-turns
+number_and-returns-in_err-b-clause-turns g t c = c.in_err-b.ensures.turns ∙ c.in_ok-a.ensures.turns
 
-pub number-returns-in_ok-b-in-AndThen-clause-kept : goal.number-returns-in_ok-b-in-AndThen-clause-kept
-number-returns-in_ok-b-in-AndThen-clause-kept g t c = c.in_ok-b-in-AndThen.ensures.kept ∙ c.in_ok-a-in-AndThen.ensures.kept
+pub number_and-returns-in_ok-b-clause-kept : goal.number_and-returns-in_ok-b-clause-kept
+number_and-returns-in_ok-b-clause-kept g t c = c.in_ok-b.ensures.kept ∙ c.in_ok-a.ensures.kept
 
-pub number-returns-in_ok-b-in-AndThen-clause-turns : goal.number-returns-in_ok-b-in-AndThen-clause-turns
-number-returns-in_ok-b-in-AndThen-clause-turns g t c = c.in_ok-b-in-AndThen.ensures.turns ∙ c.in_ok-a-in-AndThen.ensures.turns
+pub number_and-returns-in_ok-b-clause-turns : goal.number_and-returns-in_ok-b-clause-turns
+number_and-returns-in_ok-b-clause-turns g t c = c.in_ok-b.ensures.turns ∙ c.in_ok-a.ensures.turns
 
-pub number-returns-in_err-b-in-OrElse-clause-kept : goal.number-returns-in_err-b-in-OrElse-clause-kept
-number-returns-in_err-b-in-OrElse-clause-kept g t c = c.in_err-b-in-OrElse.ensures.kept ∙ c.in_ok-a-in-OrElse.ensures.kept
+pub number_or-returns-in_err-b-clause-kept : goal.number_or-returns-in_err-b-clause-kept
+number_or-returns-in_err-b-clause-kept g t c = c.in_err-b.ensures.kept ∙ c.in_ok-a.ensures.kept
 
-pub number-returns-in_err-b-in-OrElse-clause-turns : goal.number-returns-in_err-b-in-OrElse-clause-turns
-number-returns-in_err-b-in-OrElse-clause-turns g t c = c.in_err-b-in-OrElse.ensures.turns ∙ c.in_ok-a-in-OrElse.ensures.turns
+pub number_or-returns-in_err-b-clause-turns : goal.number_or-returns-in_err-b-clause-turns
+number_or-returns-in_err-b-clause-turns g t c = c.in_err-b.ensures.turns ∙ c.in_ok-a.ensures.turns
 
-pub number-returns-in_ok-b-in-OrElse-clause-kept : goal.number-returns-in_ok-b-in-OrElse-clause-kept
-number-returns-in_ok-b-in-OrElse-clause-kept g t c = c.in_ok-b-in-OrElse.ensures.kept ∙ c.in_ok-a-in-OrElse.ensures.kept
+pub number_or-returns-in_ok-b-clause-kept : goal.number_or-returns-in_ok-b-clause-kept
+number_or-returns-in_ok-b-clause-kept g t c = c.in_ok-b.ensures.kept ∙ c.in_ok-a.ensures.kept
 
-pub number-returns-in_ok-b-in-OrElse-clause-turns : goal.number-returns-in_ok-b-in-OrElse-clause-turns
-number-returns-in_ok-b-in-OrElse-clause-turns g t c = c.in_ok-b-in-OrElse.ensures.turns ∙ c.in_ok-a-in-OrElse.ensures.turns
+pub number_or-returns-in_ok-b-clause-turns : goal.number_or-returns-in_ok-b-clause-turns
+number_or-returns-in_ok-b-clause-turns g t c = c.in_ok-b.ensures.turns ∙ c.in_ok-a.ensures.turns
 
-pub number-returns-else-holds-clause-kept : goal.number-returns-else-holds-clause-kept
-number-returns-else-holds-clause-kept g t c = c.in_ok-a-in-AndThen.ensures.kept
+pub number_and-returns-else-holds-clause-kept : goal.number_and-returns-else-holds-clause-kept
+number_and-returns-else-holds-clause-kept g t c = c.in_ok-a.ensures.kept
 
-pub number-returns-else-holds-clause-turns : goal.number-returns-else-holds-clause-turns
-number-returns-else-holds-clause-turns g t c = c.in_ok-a-in-AndThen.ensures.turns
+pub number_and-returns-else-holds-clause-turns : goal.number_and-returns-else-holds-clause-turns
+number_and-returns-else-holds-clause-turns g t c = c.in_ok-a.ensures.turns
 
-pub number-returns-then-holds-2-clause-kept : goal.number-returns-then-holds-2-clause-kept
-number-returns-then-holds-2-clause-kept g t c = c.in_ok-a-in-OrElse.ensures.kept
+pub number_or-returns-then-holds-clause-kept : goal.number_or-returns-then-holds-clause-kept
+number_or-returns-then-holds-clause-kept g t c = c.in_ok-a.ensures.kept
 
-pub number-returns-then-holds-2-clause-turns : goal.number-returns-then-holds-2-clause-turns
-number-returns-then-holds-2-clause-turns g t c = c.in_ok-a-in-OrElse.ensures.turns
+pub number_or-returns-then-holds-clause-turns : goal.number_or-returns-then-holds-clause-turns
+number_or-returns-then-holds-clause-turns g t c = c.in_ok-a.ensures.turns
 
-pub number-returns-in_err-test-in-Choose-clause-kept : goal.number-returns-in_err-test-in-Choose-clause-kept
-number-returns-in_err-test-in-Choose-clause-kept g t c = c.in_err-test-in-Choose.ensures.kept
+pub number_choose-returns-in_err-test-clause-kept : goal.number_choose-returns-in_err-test-clause-kept
+number_choose-returns-in_err-test-clause-kept g t c = c.in_err-test.ensures.kept
 
-pub number-returns-in_err-test-in-Choose-clause-turns : goal.number-returns-in_err-test-in-Choose-clause-turns
-number-returns-in_err-test-in-Choose-clause-turns g t c = c.in_err-test-in-Choose.ensures.turns
+pub number_choose-returns-in_err-test-clause-turns : goal.number_choose-returns-in_err-test-clause-turns
+number_choose-returns-in_err-test-clause-turns g t c = c.in_err-test.ensures.turns
 
-pub number-returns-then-holds-3-clause-kept : goal.number-returns-then-holds-3-clause-kept
-number-returns-then-holds-3-clause-kept g t c = (c.number-then-holds-3).ensures.kept ∙ c.in_ok-test-in-Choose.ensures.kept
+pub number_choose-returns-then-holds-clause-kept : goal.number_choose-returns-then-holds-clause-kept
+number_choose-returns-then-holds-clause-kept g t c = c.number-then-holds.ensures.kept ∙ c.in_ok-test.ensures.kept
 
-pub number-returns-then-holds-3-clause-turns : goal.number-returns-then-holds-3-clause-turns
-number-returns-then-holds-3-clause-turns g t c = (c.number-then-holds-3).ensures.turns ∙ c.in_ok-test-in-Choose.ensures.turns
+pub number_choose-returns-then-holds-clause-turns : goal.number_choose-returns-then-holds-clause-turns
+number_choose-returns-then-holds-clause-turns g t c = c.number-then-holds.ensures.turns ∙ c.in_ok-test.ensures.turns
 
-pub number-returns-else-holds-3-clause-kept : goal.number-returns-else-holds-3-clause-kept
-number-returns-else-holds-3-clause-kept g t c = (c.number-else-holds-3).ensures.kept ∙ c.in_ok-test-in-Choose.ensures.kept
+pub number_choose-returns-else-holds-clause-kept : goal.number_choose-returns-else-holds-clause-kept
+number_choose-returns-else-holds-clause-kept g t c = c.number-else-holds.ensures.kept ∙ c.in_ok-test.ensures.kept
 
-pub number-returns-else-holds-3-clause-turns : goal.number-returns-else-holds-3-clause-turns
-number-returns-else-holds-3-clause-turns g t c = (c.number-else-holds-3).ensures.turns ∙ c.in_ok-test-in-Choose.ensures.turns
+pub number_choose-returns-else-holds-clause-turns : goal.number_choose-returns-else-holds-clause-turns
+number_choose-returns-else-holds-clause-turns g t c = c.number-else-holds.ensures.turns ∙ c.in_ok-test.ensures.turns
 
 pub text-returns-in-Comm-clause-kept : goal.text-returns-in-Comm-clause-kept
 text-returns-in-Comm-clause-kept g t c = refl
@@ -685,3 +688,68 @@ values-returns-in_err-push-clause-kept g t c = c.in_ok-part.ensures.kept ∙ c.l
 
 pub values-returns-in_err-push-clause-turns : goal.values-returns-in_err-push-clause-turns
 values-returns-in_err-push-clause-turns g t c = c.in_ok-part.ensures.turns ∙ c.loop-key.invariant.turns
+
+pub number-number_binary-requires : goal.number-number_binary-requires
+number-number_binary-requires g t c κs within =
+    (search (rules, nums.the_lemmas), (within.0, (within.1, (c.requires.served, subst (λ (e : NumExpr). Fits c.args.view.now (num_parts e)) c.in-Binary.is c.requires.fits))))
+
+pub number-returns-in-Binary-clause-walked : goal.number-returns-in-Binary-clause-walked
+number-returns-in-Binary-clause-walked g t c = told.Walked-num _ _ _ _ _ _ _ _ (ap number_does c.in-Binary.is) c.number_binary.ensures.walked
+
+pub number-returns-in-Binary-clause-kept : goal.number-returns-in-Binary-clause-kept
+number-returns-in-Binary-clause-kept g t c = c.number_binary.ensures.kept
+
+pub number-returns-in-Binary-clause-turns : goal.number-returns-in-Binary-clause-turns
+number-returns-in-Binary-clause-turns g t c = c.number_binary.ensures.turns
+
+pub number-number_compare-requires : goal.number-number_compare-requires
+number-number_compare-requires g t c κs within =
+    (search (rules, nums.the_lemmas), (within.0, (within.1, (c.requires.served, subst (λ (e : NumExpr). Fits c.args.view.now (num_parts e)) c.in-Compare.is c.requires.fits))))
+
+pub number-returns-in-Compare-clause-walked : goal.number-returns-in-Compare-clause-walked
+number-returns-in-Compare-clause-walked g t c = told.Walked-num _ _ _ _ _ _ _ _ (ap number_does c.in-Compare.is) c.number_compare.ensures.walked
+
+pub number-returns-in-Compare-clause-kept : goal.number-returns-in-Compare-clause-kept
+number-returns-in-Compare-clause-kept g t c = c.number_compare.ensures.kept
+
+pub number-returns-in-Compare-clause-turns : goal.number-returns-in-Compare-clause-turns
+number-returns-in-Compare-clause-turns g t c = c.number_compare.ensures.turns
+
+pub number-number_and-requires : goal.number-number_and-requires
+number-number_and-requires g t c κs within =
+    (search (rules, nums.the_lemmas), (within.0, (within.1, (c.requires.served, subst (λ (e : NumExpr). Fits c.args.view.now (num_parts e)) c.in-AndThen.is c.requires.fits))))
+
+pub number-returns-in-AndThen-clause-walked : goal.number-returns-in-AndThen-clause-walked
+number-returns-in-AndThen-clause-walked g t c = told.Walked-num _ _ _ _ _ _ _ _ (ap number_does c.in-AndThen.is) c.number_and.ensures.walked
+
+pub number-returns-in-AndThen-clause-kept : goal.number-returns-in-AndThen-clause-kept
+number-returns-in-AndThen-clause-kept g t c = c.number_and.ensures.kept
+
+pub number-returns-in-AndThen-clause-turns : goal.number-returns-in-AndThen-clause-turns
+number-returns-in-AndThen-clause-turns g t c = c.number_and.ensures.turns
+
+pub number-number_or-requires : goal.number-number_or-requires
+number-number_or-requires g t c κs within =
+    (search (rules, nums.the_lemmas), (within.0, (within.1, (c.requires.served, subst (λ (e : NumExpr). Fits c.args.view.now (num_parts e)) c.in-OrElse.is c.requires.fits))))
+
+pub number-returns-in-OrElse-clause-walked : goal.number-returns-in-OrElse-clause-walked
+number-returns-in-OrElse-clause-walked g t c = told.Walked-num _ _ _ _ _ _ _ _ (ap number_does c.in-OrElse.is) c.number_or.ensures.walked
+
+pub number-returns-in-OrElse-clause-kept : goal.number-returns-in-OrElse-clause-kept
+number-returns-in-OrElse-clause-kept g t c = c.number_or.ensures.kept
+
+pub number-returns-in-OrElse-clause-turns : goal.number-returns-in-OrElse-clause-turns
+number-returns-in-OrElse-clause-turns g t c = c.number_or.ensures.turns
+
+pub number-number_choose-requires : goal.number-number_choose-requires
+number-number_choose-requires g t c κs within =
+    (search (rules, nums.the_lemmas), (within.0, (within.1, (c.requires.served, subst (λ (e : NumExpr). Fits c.args.view.now (num_parts e)) c.in-Choose.is c.requires.fits))))
+
+pub number-returns-in-Choose-clause-walked : goal.number-returns-in-Choose-clause-walked
+number-returns-in-Choose-clause-walked g t c = told.Walked-num _ _ _ _ _ _ _ _ (ap number_does c.in-Choose.is) c.number_choose.ensures.walked
+
+pub number-returns-in-Choose-clause-kept : goal.number-returns-in-Choose-clause-kept
+number-returns-in-Choose-clause-kept g t c = c.number_choose.ensures.kept
+
+pub number-returns-in-Choose-clause-turns : goal.number-returns-in-Choose-clause-turns
+number-returns-in-Choose-clause-turns g t c = c.number_choose.ensures.turns
