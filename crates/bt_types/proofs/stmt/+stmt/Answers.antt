@@ -1,4 +1,4 @@
-use Rattle.std.proofs.Common.{◌+◌, ◌∷◌, [], List, Bool, true, Ok, map, take, option_map, FitsSigned, w64, arith, refl, sym, subst}
+use Rattle.std.proofs.Common.{◌+◌, ◌∷◌, [], List, Bool, true, Ok, Option, map, take, option_map, FitsSigned, w64, arith, refl, sym, subst}
 use Rattle.std.proofs.lemmas.Int.{to_z-of_z}
 use Rattle.std.proofs.lemmas.Result.{MatchResult-at_err, MatchResult-at_ok, MatchResult-weaker}
 use Rattle.bt_ast.specs.declared.expr.Expr.{Expr}
@@ -7,13 +7,13 @@ use Rattle.bt_ast.specs.declared.stmt.Stmt.{Stmt}
 use Rattle.typed_tree.specs.declared.expr.NumExpr.{NumExpr}
 use Rattle.typed_tree.specs.declared.stmt.TypedStmt.{TypedStmt}
 use Rattle.typed_tree.specs.declared.stmt.TypedBlock.{TypedBlock}
-use Rattle.expr_types.specs.Mentions.{ArmWord, WhileWord, EndWord, JumpWord}
+use Rattle.expr_types.specs.Mentions.{ArmWord, ElseWord, WhileWord, EndWord, JumpWord}
 use Rattle.expr_types.specs.Walk.{of_expr, of_map, of_step, of_target}
 use Rattle.bt_ast.specs.declared.stmt.StmtKind.TheVariants as kinds
 use Rattle.typed_tree.specs.declared.stmt.Jump.TheVariants.{Exit, Return}
 use Rattle.typed_tree.specs.declared.stmt.TypedStmt.TheVariants as typed
 use Rattle.expr_types.specs.Judge.{judged, SaysFault}
-use Rattle.typed_tree.specs.Parts.{TreePart, Arm, Looped, Ending, num_parts, joined, arm_parts, otherwise_parts, stmt_parts, block_parts}
+use Rattle.typed_tree.specs.Parts.{TreePart, Arm, Otherwise, Looped, Ending, num_parts, joined, arm_parts, otherwise_parts, stmt_parts, block_parts}
 use Rattle.bt_types.specs.Told.{Told, assign_told, clear_told, delete_told, gather_told, gathered_told, kind_of_call, number_of_call, printf_told, value_told, zero_told}
 use Rattle.bt_types.specs.Told.{says, told_in_turn, condition_told, arm_told, otherwise_told, if_told, while_told, unroll_told, block_told, of_block, of_stmt}
 use Rattle.bt_types.specs.Done.{Done, DoesIn}
@@ -219,3 +219,14 @@ check_kind-loop-arm-init t c =
     let k = c.args.known.now in
     subst (λ (all : List (NumExpr × TypedBlock)). Done (told_in_turn (map (arm_at c.args.inside) (take 0 c.as_slice-arm-items.result.now))) k k (joined (map (parts_at c.args.inside) all)))
     (sym c.new-all.ensures) (nothing_done k)
+
+pub check_stmts-returns : goal.check_stmts-returns
+check_stmts-returns t c =
+    run_ends (λ s. of_stmt s c.args.inside) c.args.stmts.now c.loop-stmt.stmt-index c.args.known.now c.loop-stmt.known (joined (map (λ s. stmt_parts s c.args.inside) c.loop-stmt.all))
+    c.loop-stmt-test.false c.loop-stmt.invariant
+
+pub check_otherwise-returns-in_ok-block-in-Some : goal.check_otherwise-returns-in_ok-block-in-Some
+check_otherwise-returns-in_ok-block-in-Some t c =
+    let k = c.args.known.now in let parts = block_parts c.in_ok-block-in-Some.block c.args.inside in
+    subst (λ (o : Option Block). Done (otherwise_told (option_map (λ b. of_block b c.args.inside) o)) k c.check_block.new.known (Otherwise ∷ parts)) (sym c.in-Some.is)
+    (done_next (says ElseWord) (of_block c.in-Some.block c.args.inside) k k c.check_block.new.known (Otherwise ∷ []) parts (done_says ElseWord Otherwise k tt refl) c.in_ok-block-in-Some.ensures)
