@@ -18,7 +18,7 @@ use Rattle.expr_types.specs.Join.{builtin_made}
 use Rattle.expr_types.specs.Rules.{breaks}
 use Rattle.expr_types.specs.Walk.{Seen, at, seen, builtin_sort, of_kind}
 use Rattle.expr_types.specs.Typing.{IsTyping}
-use Rattle.expr_types.specs.Checked.{Checked, Checks}
+use Rattle.expr_types.specs.Checked.{Checks}
 use Rattle.expr_types.proofs.Constructs.{literal_checks}
 use Rattle.expr_types.proofs.Growing.{grows_none}
 

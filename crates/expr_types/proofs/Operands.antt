@@ -1,12 +1,11 @@
 -- What operands break, and what is answered where they break it and where they do not.
-use Rattle.std.proofs.Common.{◌≡◌, ◌∷◌, ◌++◌, Bool, true, false, Option, Some, None, Result, Ok, Err, IfOk, refl, sym, ap, subst, ◌∙◌}
-use Rattle.bt_core.specs.declared.map.Shape.{Shape}
+use Rattle.std.proofs.Common.{◌≡◌, Option, Some, None, Result, Ok, Err, IfOk, refl, sym, subst, ◌∙◌}
 use Rattle.bt_core.specs.declared.map.Shape.TheVariants.{Int, Str}
 use Rattle.bt_core.specs.declared.operator.BinOp.{BinOp}
 use Rattle.bt_core.specs.declared.operator.BinOp.TheVariants.{Eq, Ne}
 use Rattle.bt_core.specs.declared.place.Place.{Place}
 use Rattle.typed_tree.specs.declared.expr.AnyExpr.{AnyExpr}
-use Rattle.typed_tree.specs.Parts.{TreePart, Made, made, made_of}
+use Rattle.typed_tree.specs.Parts.{Made, made_of}
 use Rattle.expr_types.specs.declared.fault.Rule.{Rule}
 use Rattle.expr_types.specs.declared.fault.Rule.TheVariants.{WrongType}
 use Rattle.expr_types.specs.declared.fault.TypeError.{TypeError}
