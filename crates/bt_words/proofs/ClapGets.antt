@@ -14,6 +14,11 @@ pub taken : {C E : Type 0} (made : Result C E) (described : C → App) (app : Ap
 taken (Ok c) described app words there is = ap (λ (a : App). takes a words) is ∙ there
 taken (Err e) described app words there is = tt
 
+-- what is said of an answer, said of what follows from it
+pub grown : {C E : Type 0} {P Q : C → Type 0} (r : Result C E) → IfOk r P → ((c : C) → P c → Q c) → IfOk r Q
+grown (Ok c) p f = f c p
+grown (Err e) p f = tt
+
 -- a text that clap read is there
 pub text_there : (f : Found) (id : Text) (o : Option (Bor Text)) → option_map (λ s. s.now) o ≡ first_value f id → IsSome (first_of id (rows_of f)) → IsSome o
 text_there f id None got there = absurd (true≢false (sym (ap is_some (got ∙ first_value-rows f id) ∙ there)))

@@ -9,3 +9,4 @@ mod ClapTwo
 mod ClapVerify
 pub mod Numbers
 mod Orders
+mod WordLoops

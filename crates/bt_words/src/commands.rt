@@ -57,7 +57,10 @@ fn with_flag<'a>(
 ) -> Result<Command<'a>, AllocError>
     ensures { (app : App) → IfOk command.entry (λ c. app_of c ≡ app) → IfOk result (λ all. app_of all ≡ with_rule app (flag_rule name.entry.now)) }
 {
-    command?.arg(flag(alloc, name))
+    match command {
+        Ok(command) => command.arg(flag(alloc, name)),
+        Err(error) => Err(error),
+    }
 }
 
 /// The command with an operand more, where there was memory for what it has.
@@ -68,7 +71,10 @@ fn with_operand<'a>(
 ) -> Result<Command<'a>, AllocError>
     ensures { (app : App) → IfOk command.entry (λ c. app_of c ≡ app) → IfOk result (λ all. app_of all ≡ with_rule app (operand_rule name.entry.now)) }
 {
-    command?.arg(operand(alloc, name))
+    match command {
+        Ok(command) => command.arg(operand(alloc, name)),
+        Err(error) => Err(error),
+    }
 }
 
 /// The command with two operands more, where there was memory for what it has.

@@ -21,8 +21,12 @@ pub(crate) struct Numbers {
 pub(crate) fn two_numbers(x: &str, n: &str) -> Option<Numbers>
     ensures { (made : ℕ → ℕ → Order) → two_numbers made x.now n.now ≡ option_map (λ two. made two.x two.n) result }
 {
-    let x = number_in(x.as_bytes(), MOST_X)?;
-    let n = number_in(n.as_bytes(), EVENTS)?;
+    let Some(x) = number_in(x.as_bytes(), MOST_X) else {
+        return None;
+    };
+    let Some(n) = number_in(n.as_bytes(), EVENTS) else {
+        return None;
+    };
     Some(Numbers { x, n })
 }
 

@@ -59,14 +59,16 @@ fn run_order(alloc: Global, words: &[String]) -> Result<Order, WordsError>
     let first = text(&matches, "script");
     let second = text(&matches, "recording");
     drop(matches);
-    let (script, recording) = two_names(alloc, first, second)?;
-    Ok(Order::Run {
-        serial,
-        stats,
-        json,
-        script,
-        recording,
-    })
+    match two_names(alloc, first, second) {
+        Ok((script, recording)) => Ok(Order::Run {
+            serial,
+            stats,
+            json,
+            script,
+            recording,
+        }),
+        Err(error) => Err(error),
+    }
 }
 
 /// The order of `account`, as clap reads its option and operands.
@@ -81,12 +83,14 @@ fn account_order(alloc: Global, words: &[String]) -> Result<Order, WordsError>
     let first = text(&matches, "script");
     let second = text(&matches, "recording");
     drop(matches);
-    let (script, recording) = two_names(alloc, first, second)?;
-    Ok(Order::Account {
-        serial,
-        script,
-        recording,
-    })
+    match two_names(alloc, first, second) {
+        Ok((script, recording)) => Ok(Order::Account {
+            serial,
+            script,
+            recording,
+        }),
+        Err(error) => Err(error),
+    }
 }
 
 /// The order of `verify`, as clap reads its operands.
@@ -101,12 +105,14 @@ fn verify_order(alloc: Global, words: &[String]) -> Result<Order, WordsError>
     let second = text(&matches, "recording");
     let third = text(&matches, "account");
     drop(matches);
-    let (script, recording) = two_names(alloc, first, second)?;
-    Ok(Order::Verify {
-        script,
-        recording,
-        account: FileName::of(alloc, third)?,
-    })
+    match three_names(alloc, first, second, third) {
+        Ok(((script, recording), account)) => Ok(Order::Verify {
+            script,
+            recording,
+            account,
+        }),
+        Err(error) => Err(error),
+    }
 }
 
 /// The names that two texts are.
@@ -116,6 +122,20 @@ fn two_names(alloc: Global, first: &str, second: &str) -> Result<(FileName, File
 {
     let first = FileName::of(alloc, first)?;
     Ok(beside(first, FileName::of(alloc, second))?)
+}
+
+/// The names that three texts are.
+fn three_names(
+    alloc: Global,
+    first: &str,
+    second: &str,
+    third: &str,
+) -> Result<((FileName, FileName), FileName), WordsError>
+    ensures names { IfOk result (λ names. (names.0.0 ≡ first.now) × (names.0.1 ≡ second.now) × (names.1 ≡ third.now)) }
+    ensures memory { IfErr result (λ error. error ≡ WordsError.Memory) }
+{
+    let two = two_names(alloc, first, second)?;
+    Ok(beside(two, FileName::of(alloc, third))?)
 }
 
 /// The order of a command that takes two operands and no options.
@@ -147,7 +167,9 @@ fn number_order(command: &str, operands: Operands<'_>) -> Result<Order, WordsErr
     requires { IsNumberCommand command.now }
     ensures { IsAnswer (plain_order command.now (operands.entry.first.now ∷ operands.entry.second.now ∷ [])) result }
 {
-    let Numbers { x, n } = two_numbers(operands.first, operands.second).ok_or(WordsError::Usage)?;
+    let Some(Numbers { x, n }) = two_numbers(operands.first, operands.second) else {
+        return Err(WordsError::Usage);
+    };
     Ok(match command {
         "gen" => Order::Gen { x, n },
         _ => Order::Big { x, n },

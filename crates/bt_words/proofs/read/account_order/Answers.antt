@@ -28,8 +28,8 @@ text-second-requires c =
     let rows = c.in-Ok.ensures.matches account_app c.account_command.ensures in
     first_there (codes "recording") _ (rows_of (found_of c.in-Ok.matches)) (matches_of account_app words) rows read.recording_text
 
-pub returns : goal.returns
-returns c =
+pub returns-in-Ok-two_names : goal.returns-in-Ok-two_names
+returns-in-Ok-two_names c =
     let words = map string_bytes c.args.words.now in
     let is = is_account (drop 1 words) c.requires in
     let read = reads_account words is in
@@ -38,4 +38,10 @@ returns c =
     let script = text_is (codes "script") c.text-first.result.now _ (rows_of found) (matches_of account_app words) rows read.script_text c.text-first.ensures in
     let recording = text_is (codes "recording") c.text-second.result.now _ (rows_of found) (matches_of account_app words) rows read.recording_text c.text-second.ensures in
     let serial = flag_is found (codes "serial") _ _ c.get_flag-serial.result rows read.serial_text c.get_flag-serial.ensures.value c.get_flag-serial.ensures.other in
-    account_is (drop 1 words) is _ _ _ serial (c.in_ok-script.ensures.names.0 ∙ script) (c.in_ok-script.ensures.names.1 ∙ recording)
+    account_is (drop 1 words) is _ _ _ serial (c.in-Ok-two_names.ensures.names.0 ∙ script) (c.in-Ok-two_names.ensures.names.1 ∙ recording)
+
+pub returns-in-Err : goal.returns-in-Err
+returns-in-Err c = rw c.in-Err.ensures.memory c.requires
+
+pub returns-in_default : goal.returns-in_default
+returns-in_default c = c.requires

@@ -28,8 +28,8 @@ text-second-requires c =
     let rows = c.in-Ok.ensures.matches run_app c.run_command.ensures in
     first_there (codes "recording") _ (rows_of (found_of c.in-Ok.matches)) (matches_of run_app words) rows read.recording_text
 
-pub returns : goal.returns
-returns c =
+pub returns-in-Ok-two_names : goal.returns-in-Ok-two_names
+returns-in-Ok-two_names c =
     let words = map string_bytes c.args.words.now in
     let is = is_run (drop 1 words) c.requires in
     let read = reads_run words is in
@@ -40,4 +40,10 @@ returns c =
     let serial = flag_is found (codes "serial") _ _ c.get_flag-serial.result rows read.serial_text c.get_flag-serial.ensures.value c.get_flag-serial.ensures.other in
     let stats = flag_is found (codes "stats") _ _ c.get_flag-stats.result rows read.stats_text c.get_flag-stats.ensures.value c.get_flag-stats.ensures.other in
     let json = flag_is found (codes "json") _ _ c.get_flag-json.result rows read.json_text c.get_flag-json.ensures.value c.get_flag-json.ensures.other in
-    run_is (drop 1 words) is _ _ _ _ _ serial stats json (c.in_ok-script.ensures.names.0 ∙ script) (c.in_ok-script.ensures.names.1 ∙ recording)
+    run_is (drop 1 words) is _ _ _ _ _ serial stats json (c.in-Ok-two_names.ensures.names.0 ∙ script) (c.in-Ok-two_names.ensures.names.1 ∙ recording)
+
+pub returns-in-Err : goal.returns-in-Err
+returns-in-Err c = rw c.in-Err.ensures.memory c.requires
+
+pub returns-in_default : goal.returns-in_default
+returns-in_default c = c.requires

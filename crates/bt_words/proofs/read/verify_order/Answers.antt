@@ -37,8 +37,8 @@ text-third-requires c =
     let rows = c.in-Ok.ensures.matches verify_app c.verify_command.ensures in
     first_there (codes "account") _ (rows_of (found_of c.in-Ok.matches)) (matches_of verify_app words) rows read.4.account_text
 
-pub returns : goal.returns
-returns c =
+pub returns-in-Ok-three_names : goal.returns-in-Ok-three_names
+returns-in-Ok-three_names c =
     let words = map string_bytes c.args.words.now in
     let are = behind_verify (drop 1 words) c.requires in
     let read = reads_verify words are in
@@ -47,4 +47,11 @@ returns c =
     let script = text_is (codes "script") c.text-first.result.now _ (rows_of found) (matches_of verify_app words) rows read.4.script_text c.text-first.ensures in
     let recording = text_is (codes "recording") c.text-second.result.now _ (rows_of found) (matches_of verify_app words) rows read.4.recording_text c.text-second.ensures in
     let account = text_is (codes "account") c.text-third.result.now _ (rows_of found) (matches_of verify_app words) rows read.4.account_text c.text-third.ensures in
-    verify_is (drop 1 words) _ _ _ _ _ _ are read.3 (c.in_ok-script.ensures.names.0 ∙ script) (c.in_ok-script.ensures.names.1 ∙ recording) (c.in_ok-of.ensures ∙ account)
+    let names = c.in-Ok-three_names.ensures.names in
+    verify_is (drop 1 words) _ _ _ _ _ _ are read.3 (names.0 ∙ script) (names.1 ∙ recording) (names.2 ∙ account)
+
+pub returns-in-Err : goal.returns-in-Err
+returns-in-Err c = rw c.in-Err.ensures.memory c.requires
+
+pub returns-in_default : goal.returns-in_default
+returns-in_default c = c.requires
