@@ -1,6 +1,6 @@
 -- Lowering of each kind of expression, by its tree.
 use Rattle.std.proofs.Common.{◌≡◌, ℕ, zero, suc, ◌+◌, ◌≤◌, ◌<◌, ◌-◌, Result, Ok, Err, List, [], ◌∷◌, ◌++◌, length, refl, sym, ap, ◌∙◌, subst, arith, Bool, true, false, drop, drop-cons, get_or}
-use Rattle.std.specs.Prelude.{ℤ, pos, max, cond, slice_get, OnOk}
+use Rattle.std.specs.Prelude.{ℤ, pos, max, cond, slice_get, IfOk, OnOk}
 use Rattle.std.proofs.Math.Nat.{le-max_left, le-max_right, max-le}
 use Rattle.std.proofs.lemmas.Bool.{and_parts}
 use Rattle.std.proofs.lemmas.List.{drop_all}
@@ -56,6 +56,14 @@ use Rattle.bt_lower.proofs.Words.{Lowers-leaf, Lowers-number, Lowers-literal, Lo
 pub at-ok : {A : Type 0} {P Q : Type 0} (r : Result A Memory) → OnOk r P → (P → Q) → OnOk r Q
 at-ok (Ok x) h f = f h
 at-ok (Err e) h f = tt
+
+pub with-number : {P : Type 0} (Q R : ℕ → Type 0) (r : Result ℕ Memory) → OnOk r P → IfOk r Q → (P → (n : ℕ) → Q n → R n) → IfOk r R
+with-number Q R (Ok n) p q f = f p n q
+with-number Q R (Err e) p q f = tt
+
+pub on-number : (Q R : ℕ → Type 0) (r : Result ℕ Memory) → IfOk r Q → ((n : ℕ) → Q n → R n) → IfOk r R
+on-number Q R (Ok n) q f = f n q
+on-number Q R (Err e) q f = tt
 
 num-is : (e x : NumExpr) (ps : List TreePart) (d : Does ℤ) (n : Need) (c new : Code) → e ≡ x → num_parts x ≡ ps → number_does x ≡ d → number_need x ≡ n → LowersValue ps (number_value d) shapes.Int n c new → LowersNumber e c new
 num-is e x ps d n c new he hp hd hn l =

@@ -103,6 +103,13 @@ part-unroll a whole h e = subst IsTooMuch (sym e) (too-much a (need (8 + a.frame
 pub beside-are : (bytes slots : ℕ) (a b x y : Need) → a ≡ x → b ≡ y → then_beside bytes (more slots a) b ≡ then_beside bytes (more slots x) y
 beside-are bytes slots a b x y ha hb = ap (λ (n : Need). then_beside bytes (more slots n) b) ha ∙ ap (then_beside bytes (more slots x)) hb
 
+-- what stands beside a key, and its slots behind
+pub keyed-are : (slots frame code frame1 code1 : ℕ) (all : Need) (keys : Listed) (vs : List Valued) → all ≡ under keys frame slots → keys ≡ listed vs → frame ≡ frame1 → code ≡ code1
+    → need all.frame (all.code + code) ≡ need (beside vs frame1) (slots + codes_in vs + code1)
+keyed-are slots frame code frame1 code1 all keys vs ha hk hf hc =
+    ap (λ (n : Need). need n.frame (n.code + code)) ha ∙ ap (λ (k : Listed). need (under k frame slots).frame ((under k frame slots).code + code)) hk
+    ∙ ap (λ (f : ℕ). need (beside vs f) (slots + codes_in vs + code)) hf ∙ ap (λ (n : ℕ). need (beside vs frame1) (slots + codes_in vs + n)) hc
+
 pub greater-are : (slots : ℕ) (a b x y : Need) → a ≡ x → b ≡ y → more slots (greater a b) ≡ more slots (greater x y)
 greater-are slots a b x y ha hb = ap (λ (n : Need). more slots (greater n b)) ha ∙ ap (λ (n : Need). more slots (greater x n)) hb
 

@@ -5,10 +5,9 @@ ghost use Rattle.bt_lower.specs.Bodies.{LowersGuarded, LowersTree};
 
 use crate::code::{Code, Ways};
 use crate::stmt::{lower_block, lower_into};
-use crate::value::lower_number;
+use crate::value::lower_test;
 use bt_core::ending::Ending;
 use bt_core::items::Items;
-use bt_core::map::Shape;
 use bt_core::memory::Memory;
 use ir_code::blocks::{Block, Exit};
 use std::alloc::Global;
@@ -40,21 +39,15 @@ fn lower_guarded(
     ensures { OnOk result (LowersGuarded predicate.now block.now way code.old code.new) }
 {
     match predicate {
-        None => lower_block(alloc, block, way, code)?,
+        None => lower_block(alloc, block, way, code),
         Some(e) => {
             let after = code.close(alloc)?;
             let first = lower_into(alloc, block, after, way, code)?;
-            let exit = Exit::Branch {
-                first,
-                second: after,
-            };
-            code.begin(alloc, exit, &[Shape::Int])?;
-            lower_number(alloc, e, code)?;
+            lower_test(alloc, e, first, after, code)?;
             let head = code.close(alloc)?;
-            code.begin(alloc, Exit::Goto(head), &[])?;
+            code.begin(alloc, Exit::Goto(head), &[])
         }
     }
-    Ok(())
 }
 
 /// Lowers a body to code, where there is none yet.

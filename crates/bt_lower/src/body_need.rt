@@ -44,7 +44,7 @@ fn gather_need(keys: &[AnyExpr], number: &Option<NumExpr>) -> Result<Need, Memor
         Some(e) => {
             let number = number_need(e)?;
             let all = under(keys, number.frame, 24)?;
-            Ok(and_code(all, number.code)?)
+            and_code(all, number.code)
         }
     }
 }
@@ -57,7 +57,7 @@ fn set_map_need(keys: &[AnyExpr], value: &AnyExpr) -> Result<Need, Memory>
     let keys = values_need(keys)?;
     let value = value_need(value)?;
     let all = under(keys, value.need.frame, 24)?;
-    Ok(and_code(all, value.need.code)?)
+    and_code(all, value.need.code)
 }
 
 /// What `op=` on a map needs.
@@ -68,7 +68,7 @@ fn update_map_need(keys: &[AnyExpr], value: &NumExpr) -> Result<Need, Memory>
     let keys = values_need(keys)?;
     let value = number_need(value)?;
     let all = under(keys, value.frame.max(16), 40)?;
-    Ok(and_code(all, value.code)?)
+    and_code(all, value.code)
 }
 
 /// What a statement needs that takes values alone.
@@ -77,7 +77,7 @@ fn taking_need(values: &[AnyExpr]) -> Result<Need, Memory>
     ensures beyond { OnErr result (IsTooMuch (taking_need (values_need values.now))) }
 {
     let values = values_need(values)?;
-    Ok(more(16, values.need)?)
+    more(16, values.need)
 }
 
 /// What an assignment to a variable needs.
@@ -86,7 +86,7 @@ fn set_variable_need(value: &AnyExpr) -> Result<Need, Memory>
     ensures beyond { OnErr result (IsTooMuch (more (by_shape (made_of value.now).shape 8 24) (value_need value.now).need)) }
 {
     let valued = value_need(value)?;
-    Ok(more(store_slots(value.shape()), valued.need)?)
+    more(store_slots(value.shape()), valued.need)
 }
 
 /// What `op=` on a variable needs.
@@ -95,7 +95,7 @@ fn update_variable_need(value: &NumExpr) -> Result<Need, Memory>
     ensures beyond { OnErr result (IsTooMuch (more 16 (number_need value.now))) }
 {
     let value = number_need(value)?;
-    Ok(more(16, value)?)
+    more(16, value)
 }
 
 /// What a statement needs.
@@ -186,7 +186,7 @@ fn otherwise_need(otherwise: &Option<TypedBlock>) -> Result<Need, Memory>
 {
     match otherwise {
         None => Ok(figures(0, 0)),
-        Some(block) => Ok(block_need(block)?),
+        Some(block) => block_need(block),
     }
 }
 

@@ -3,6 +3,7 @@ ghost use Rattle.std.specs.Prelude.{◌≡◌, ◌+◌, ◌≤◌, ◌^◌, ◌+
 ghost use Rattle.ir_code.specs.Typing.{operand_shapes, gives, front_of};
 ghost use Rattle.bt_lower.specs.Code.{pushed, closed, begun, untyped, reserved, gated, patched, taken_back};
 
+use bt_core::beside::beside;
 use bt_core::ending::Ending;
 use bt_core::items::Items;
 use bt_core::map::Shape;
@@ -90,8 +91,11 @@ impl Code {
     pub fn push(&mut self, alloc: Global, instr: Instr) -> Result<(), Memory>
         ensures { OnOk result (self.new ≡ pushed instr self.old) }
     {
-        take_back(alloc, &instr, &mut self.stack)?;
-        self.instrs.push(instr)
+        let taken = take_back(alloc, &instr, &mut self.stack);
+        match beside(instr, taken) {
+            Ok((instr, ())) => self.instrs.push(instr),
+            Err(error) => Err(error),
+        }
     }
 
     /// Makes what is open a block, and answers its number. What is open then goes on to it.
@@ -112,8 +116,18 @@ impl Code {
         Ok(number)
     }
 
+    /// Likewise, and lets the last type on the stack go.
+    pub fn close_below(&mut self, alloc: Global) -> Result<usize, Memory>
+        ensures closed { OnOk result (self.new ≡ untyped (closed self.old)) }
+        ensures number { IfOk result (λ number. number ≡ length self.old.blocks) }
+    {
+        let number = self.close(alloc)?;
+        self.untype();
+        Ok(number)
+    }
+
     /// Lets the last type on the stack go.
-    pub fn untype(&mut self)
+    fn untype(&mut self)
         ensures { self.new ≡ untyped self.old }
     {
         let len = self.stack.len();
@@ -166,16 +180,18 @@ impl Code {
     pub fn patch(&mut self, alloc: Global, at: usize, head: usize) -> Result<(), Memory>
         ensures { OnOk result (self.new ≡ patched at head self.old) }
     {
-        let depth = deeper(self.depth)?;
-        let stack = self.stack.try_copy(alloc)?;
-        let block = Block {
-            stack,
-            instrs: Items::new(alloc),
-            exit: Exit::Again(head),
-            depth,
-        };
         if at < self.blocks.len() {
-            self.blocks.set(at, block);
+            let depth = deeper(self.depth)?;
+            let stack = self.stack.try_copy(alloc)?;
+            self.blocks.set(
+                at,
+                Block {
+                    stack,
+                    instrs: Items::new(alloc),
+                    exit: Exit::Again(head),
+                    depth,
+                },
+            );
         }
         Ok(())
     }

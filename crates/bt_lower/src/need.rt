@@ -72,7 +72,7 @@ fn then_beside(bytes: u64, a: Need, b: Need) -> Result<Need, Memory>
     ensures beyond { OnErr result (IsTooMuch (then_beside bytes a b)) }
 {
     let frame = sum(bytes, b.frame)?;
-    Ok(greater(a, figures(frame, b.code))?)
+    greater(a, figures(frame, b.code))
 }
 
 /// One after another, and some slots more.
@@ -81,7 +81,7 @@ pub(crate) fn greater_and(slots: u64, a: Need, b: Need) -> Result<Need, Memory>
     ensures beyond { OnErr result (IsTooMuch (more slots (greater a b))) }
 {
     let both = greater(a, b)?;
-    Ok(more(slots, both)?)
+    more(slots, both)
 }
 
 /// Two operands: the second is evaluated beside the value of the first, which has so many bytes, and some slots more.
@@ -90,7 +90,7 @@ fn operands(slots: u64, bytes: u64, left: Need, right: Need) -> Result<Need, Mem
     ensures beyond { OnErr result (IsTooMuch (then_beside bytes (more slots left) right)) }
 {
     let left = more(slots, left)?;
-    Ok(then_beside(bytes, left, right)?)
+    then_beside(bytes, left, right)
 }
 
 /// So many bytes and slots beside a key.
@@ -229,7 +229,7 @@ fn chosen(test: Need, one: Need, other: Need) -> Result<Need, Memory>
 {
     let ways = greater(one, other)?;
     let all = greater(test, ways)?;
-    Ok(more(8, all)?)
+    more(8, all)
 }
 
 /// What a statement needs that goes elsewhere.
@@ -253,7 +253,7 @@ pub fn predicate_need(predicate: &Option<NumExpr>) -> Result<Need, Memory>
         None => Ok(figures(0, 0)),
         Some(e) => {
             let need = number_need(e)?;
-            Ok(more(8, need)?)
+            more(8, need)
         }
     }
 }

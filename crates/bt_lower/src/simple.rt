@@ -21,8 +21,7 @@ pub fn set_variable(alloc: Global, var: u32, value: &AnyExpr, code: &mut Code) -
 {
     let shape = value.shape();
     code.push(alloc, Instr::Store { var, shape })?;
-    lower_value(alloc, value, code)?;
-    Ok(())
+    lower_value(alloc, value, code)
 }
 
 /// Lowers `map[keys] = value`: the key is evaluated first, and lies below the value.
@@ -39,8 +38,7 @@ pub fn set_map(
     let shape = value.shape();
     code.push(alloc, Instr::Set { map, key, shape })?;
     lower_value(alloc, value, code)?;
-    lower_values(alloc, keys, code)?;
-    Ok(())
+    lower_values(alloc, keys, code)
 }
 
 /// Lowers `$var op= value`.
@@ -54,8 +52,7 @@ pub fn update_variable(
     ensures { OnOk result (LowersSingle (stmts.UpdateVar var op value.now) code.old code.new) }
 {
     code.push(alloc, Instr::UpdateVar { var, op })?;
-    lower_number(alloc, value, code)?;
-    Ok(())
+    lower_number(alloc, value, code)
 }
 
 /// Lowers `map[keys] op= value`.
@@ -72,8 +69,7 @@ pub fn update_map(
     let key = shapes_of(alloc, keys)?;
     code.push(alloc, Instr::Update { map, key, op })?;
     lower_number(alloc, value, code)?;
-    lower_values(alloc, keys, code)?;
-    Ok(())
+    lower_values(alloc, keys, code)
 }
 
 /// Lowers an aggregation: `count()` has no number.
@@ -106,8 +102,7 @@ pub fn step(alloc: Global, value: &NumExpr, code: &mut Code) -> Result<(), Memor
     ensures { OnOk result (LowersSingle (stmts.Step value.now) code.old code.new) }
 {
     code.push(alloc, Instr::Pop)?;
-    lower_number(alloc, value, code)?;
-    Ok(())
+    lower_number(alloc, value, code)
 }
 
 /// Lowers `printf(format, values)`.
@@ -116,32 +111,28 @@ pub fn printf(alloc: Global, format: u32, values: &[AnyExpr], code: &mut Code) -
 {
     let shapes = shapes_of(alloc, values)?;
     code.push(alloc, Instr::Printf { format, shapes })?;
-    lower_values(alloc, values, code)?;
-    Ok(())
+    lower_values(alloc, values, code)
 }
 
 /// Lowers `print(map, top, div)`.
 pub fn print(alloc: Global, map: MapId, top: u64, div: i64, code: &mut Code) -> Result<(), Memory>
     ensures { OnOk result (LowersSingle (stmts.Print map top div) code.old code.new) }
 {
-    code.push(alloc, Instr::Print { map, top, div })?;
-    Ok(())
+    code.push(alloc, Instr::Print { map, top, div })
 }
 
 /// Lowers `clear(map)`.
 pub fn clear(alloc: Global, map: MapId, code: &mut Code) -> Result<(), Memory>
     ensures { OnOk result (LowersSingle (stmts.Clear map) code.old code.new) }
 {
-    code.push(alloc, Instr::Clear(map))?;
-    Ok(())
+    code.push(alloc, Instr::Clear(map))
 }
 
 /// Lowers `zero(map)`.
 pub fn zero(alloc: Global, map: MapId, code: &mut Code) -> Result<(), Memory>
     ensures { OnOk result (LowersSingle (stmts.Zero map) code.old code.new) }
 {
-    code.push(alloc, Instr::Zero(map))?;
-    Ok(())
+    code.push(alloc, Instr::Zero(map))
 }
 
 /// Lowers `delete(map[keys])`.
@@ -150,8 +141,7 @@ pub fn delete_at(alloc: Global, map: MapId, keys: &[AnyExpr], code: &mut Code) -
 {
     let key = shapes_of(alloc, keys)?;
     code.push(alloc, Instr::Delete { map, key })?;
-    lower_values(alloc, keys, code)?;
-    Ok(())
+    lower_values(alloc, keys, code)
 }
 
 /// Lowers a statement that goes elsewhere. What was open is let go, since nothing comes to it.

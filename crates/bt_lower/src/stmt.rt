@@ -9,9 +9,8 @@ use crate::simple::{
     clear, delete_at, gather, jump, print, printf, set_map, set_variable, step, update_map,
     update_variable, zero,
 };
-use crate::value::lower_number;
+use crate::value::lower_test;
 use bt_core::ending::Ending;
-use bt_core::map::Shape;
 use bt_core::memory::Memory;
 use bt_core::value::Value;
 use ir_code::blocks::Exit;
@@ -94,8 +93,7 @@ pub fn lower_into(
 {
     code.begin(alloc, Exit::Goto(after), &[])?;
     lower_block(alloc, block, way, code)?;
-    let number = code.close(alloc)?;
-    Ok(number)
+    code.close(alloc)
 }
 
 /// Lowers an `if`: the blocks of its arms are made from the last one to the first, and what is open goes on to the first.
@@ -132,10 +130,9 @@ fn lower_only_else(
     ensures { OnOk result (LowersStatement (stmts.If [] otherwise.now) way code.old code.new) }
 {
     match otherwise {
-        Some(block) => lower_block(alloc, block, way, code)?,
-        None => {}
+        Some(block) => lower_block(alloc, block, way, code),
+        None => Ok(()),
     }
-    Ok(())
 }
 
 /// The blocks of an arm: where its test does not hold, it goes on to the block `next`.
@@ -152,14 +149,8 @@ fn lower_arm(
     ensures { IfOk result (λ number. LowersOneArm (condition.now, block.now) next after way code.old code.new number) }
 {
     let first = lower_into(alloc, block, after, way, code)?;
-    let exit = Exit::Branch {
-        first,
-        second: next,
-    };
-    code.begin(alloc, exit, &[Shape::Int])?;
-    lower_number(alloc, condition, code)?;
-    let number = code.close(alloc)?;
-    Ok(number)
+    lower_test(alloc, condition, first, next, code)?;
+    code.close(alloc)
 }
 
 /// The block of an `else`, or, where there is none, the block that follows.
@@ -174,10 +165,7 @@ fn lower_else(
     ensures { IfOk result (λ number. LowersElse otherwise.now after way code.old code.new number) }
 {
     match otherwise {
-        Some(block) => {
-            let number = lower_into(alloc, block, after, way, code)?;
-            Ok(number)
-        }
+        Some(block) => lower_into(alloc, block, after, way, code),
         None => Ok(after),
     }
 }
@@ -199,15 +187,9 @@ fn lower_while(
     let turn = lower_into(alloc, block, again, Ways { leave, again }, code)?;
     code.gate(alloc, turn, cut);
     let first = code.close(alloc)?;
-    let exit = Exit::Branch {
-        first,
-        second: leave,
-    };
-    code.begin(alloc, exit, &[Shape::Int])?;
-    lower_number(alloc, condition, code)?;
+    lower_test(alloc, condition, first, leave, code)?;
     let head = code.close(alloc)?;
-    code.patch(alloc, again, head)?;
-    Ok(())
+    code.patch(alloc, again, head)
 }
 
 /// Lowers `unroll`: the count lies on the stack. The head takes 1 off it where turns are left, and each turn begins at the gate.
@@ -232,8 +214,7 @@ fn lower_unroll(
     code.begin(alloc, exit, &[])?;
     let head = code.close(alloc)?;
     code.patch(alloc, again, head)?;
-    code.push(alloc, Instr::Put(Value::Int(i64::from(turns))))?;
-    Ok(())
+    code.push(alloc, Instr::Put(Value::Int(i64::from(turns))))
 }
 
 /// The block that a loop goes to where no turn is left.

@@ -1,11 +1,12 @@
 // Lowering of expressions: a function puts what evaluates before what is open.
-ghost use Rattle.std.specs.Prelude.{◌≡◌, OnOk, IfOk, []};
+ghost use Rattle.std.specs.Prelude.{◌≡◌, ◌∷◌, [], OnOk, IfOk};
 ghost use Rattle.bt_core.specs.declared.map.Shape.TheVariants as shapes;
+ghost use Rattle.ir_code.specs.declared.blocks.Exit.TheVariants.{Branch};
 ghost use Rattle.ir_code.specs.declared.instr.Instr.TheVariants as instrs;
 ghost use Rattle.typed_tree.specs.Parts.{num_parts, str_parts, key_shapes};
 ghost use Rattle.walk_meaning.specs.Does.{given};
 ghost use Rattle.walk_meaning.specs.Exprs.{number_does, text_does, number_value, text_value, tested};
-ghost use Rattle.bt_lower.specs.Code.{pushed};
+ghost use Rattle.bt_lower.specs.Code.{begun, pushed};
 ghost use Rattle.bt_lower.specs.Lowers.{LowersAny, LowersNumber, LowersText, LowersList, LowersArm, all_made, known_need};
 ghost use Rattle.map_ops.specs.Values.{shape_of};
 ghost use Rattle.bt_lower.specs.Needs.{number_need, text_need, more};
@@ -38,8 +39,7 @@ fn push_number_field(alloc: Global, field: &Field, code: &mut Code) -> Result<()
     ensures { OnOk result (code.new ≡ pushed (instrs.NumberField field.now) code.old) }
 {
     let field = field.try_copy(alloc)?;
-    code.push(alloc, Instr::NumberField(field))?;
-    Ok(())
+    code.push(alloc, Instr::NumberField(field))
 }
 
 /// Likewise the string in a field.
@@ -47,8 +47,7 @@ fn push_text_field(alloc: Global, field: &Field, code: &mut Code) -> Result<(), 
     ensures { OnOk result (code.new ≡ pushed (instrs.TextField field.now) code.old) }
 {
     let field = field.try_copy(alloc)?;
-    code.push(alloc, Instr::TextField(field))?;
-    Ok(())
+    code.push(alloc, Instr::TextField(field))
 }
 
 /// Likewise the value that a map has at a key.
@@ -62,8 +61,7 @@ fn push_get(
     ensures { OnOk result (code.new ≡ pushed (instrs.Get map (key_shapes (all_made keys.now)) shape) code.old) }
 {
     let key = shapes_of(alloc, keys)?;
-    code.push(alloc, Instr::Get { map, key, shape })?;
-    Ok(())
+    code.push(alloc, Instr::Get { map, key, shape })
 }
 
 /// Likewise an aggregation at a key.
@@ -71,8 +69,7 @@ fn push_read_agg(alloc: Global, map: MapId, keys: &[AnyExpr], code: &mut Code) -
     ensures { OnOk result (code.new ≡ pushed (instrs.ReadAgg map (key_shapes (all_made keys.now))) code.old) }
 {
     let key = shapes_of(alloc, keys)?;
-    code.push(alloc, Instr::ReadAgg { map, key })?;
-    Ok(())
+    code.push(alloc, Instr::ReadAgg { map, key })
 }
 
 /// Likewise the step of a map's number at a key.
@@ -95,8 +92,7 @@ fn push_step_map(
             plus,
             prefix,
         },
-    )?;
-    Ok(())
+    )
 }
 
 /// Lowers an expression.
@@ -105,10 +101,9 @@ pub fn lower_value(alloc: Global, e: &AnyExpr, code: &mut Code) -> Result<(), Me
     ensures { OnOk result (LowersAny e.now code.old code.new) }
 {
     match e {
-        AnyExpr::Num(e) => lower_number(alloc, e, code)?,
-        AnyExpr::Str(e) => lower_text(alloc, e, code)?,
+        AnyExpr::Num(e) => lower_number(alloc, e, code),
+        AnyExpr::Str(e) => lower_text(alloc, e, code),
     }
-    Ok(())
 }
 
 /// Lowers a whole number.
@@ -167,28 +162,22 @@ pub fn lower_number(alloc: Global, e: &NumExpr, code: &mut Code) -> Result<(), M
             lower_text(alloc, left.get(), code)
         }
         NumExpr::AndThen { left, right } => {
-            let after = code.close(alloc)?;
-            code.untype();
+            let after = code.close_below(alloc)?;
             let second = known_arm(alloc, Value::Int(0), after, code)?;
             let first = tested_arm(alloc, right.get(), after, code)?;
-            code.begin(alloc, Exit::Branch { first, second }, &[Shape::Int])?;
-            lower_number(alloc, left.get(), code)
+            lower_test(alloc, left.get(), first, second, code)
         }
         NumExpr::OrElse { left, right } => {
-            let after = code.close(alloc)?;
-            code.untype();
+            let after = code.close_below(alloc)?;
             let second = tested_arm(alloc, right.get(), after, code)?;
             let first = known_arm(alloc, Value::Int(1), after, code)?;
-            code.begin(alloc, Exit::Branch { first, second }, &[Shape::Int])?;
-            lower_number(alloc, left.get(), code)
+            lower_test(alloc, left.get(), first, second, code)
         }
         NumExpr::Choose { condition, yes, no } => {
-            let after = code.close(alloc)?;
-            code.untype();
+            let after = code.close_below(alloc)?;
             let second = lower_number_arm(alloc, no.get(), after, code)?;
             let first = lower_number_arm(alloc, yes.get(), after, code)?;
-            code.begin(alloc, Exit::Branch { first, second }, &[Shape::Int])?;
-            lower_number(alloc, condition.get(), code)
+            lower_test(alloc, condition.get(), first, second, code)
         }
     }
 }
@@ -214,12 +203,10 @@ pub fn lower_text(alloc: Global, e: &StrExpr, code: &mut Code) -> Result<(), Mem
             lower_values(alloc, keys.as_slice(), code)
         }
         StrExpr::Choose { condition, yes, no } => {
-            let after = code.close(alloc)?;
-            code.untype();
+            let after = code.close_below(alloc)?;
             let second = lower_text_arm(alloc, no.get(), after, code)?;
             let first = lower_text_arm(alloc, yes.get(), after, code)?;
-            code.begin(alloc, Exit::Branch { first, second }, &[Shape::Int])?;
-            lower_number(alloc, condition.get(), code)
+            lower_test(alloc, condition.get(), first, second, code)
         }
     }
 }
@@ -237,6 +224,21 @@ pub fn lower_values(alloc: Global, es: &[AnyExpr], code: &mut Code) -> Result<()
     Ok(())
 }
 
+/// Lowers a test: where the whole number counts as true the one block is next, and otherwise the other.
+#[cycle(value)]
+pub fn lower_test(
+    alloc: Global,
+    test: &NumExpr,
+    first: usize,
+    second: usize,
+    code: &mut Code,
+) -> Result<(), Memory>
+    ensures { OnOk result (LowersNumber test.now (begun (Branch first second) (shapes.Int ∷ []) code.old) code.new) }
+{
+    code.begin(alloc, Exit::Branch { first, second }, &[Shape::Int])?;
+    lower_number(alloc, test, code)
+}
+
 /// A block that evaluates a whole number and goes on to a block.
 #[cycle(value)]
 fn lower_number_arm(
@@ -250,8 +252,7 @@ fn lower_number_arm(
 {
     code.begin(alloc, Exit::Goto(after), &[Shape::Int])?;
     lower_number(alloc, e, code)?;
-    let number = code.close(alloc)?;
-    Ok(number)
+    code.close(alloc)
 }
 
 /// Likewise a string.
@@ -267,8 +268,7 @@ fn lower_text_arm(
 {
     code.begin(alloc, Exit::Goto(after), &[Shape::Str])?;
     lower_text(alloc, e, code)?;
-    let number = code.close(alloc)?;
-    Ok(number)
+    code.close(alloc)
 }
 
 /// Likewise 1 where a number counts as true and otherwise 0.
@@ -280,8 +280,7 @@ fn tested_arm(alloc: Global, e: &NumExpr, after: usize, code: &mut Code) -> Resu
     code.begin(alloc, Exit::Goto(after), &[Shape::Int])?;
     code.push(alloc, Instr::Truth)?;
     lower_number(alloc, e, code)?;
-    let number = code.close(alloc)?;
-    Ok(number)
+    code.close(alloc)
 }
 
 /// Likewise a value that is known.
@@ -290,6 +289,5 @@ fn known_arm(alloc: Global, value: Value, after: usize, code: &mut Code) -> Resu
 {
     code.begin(alloc, Exit::Goto(after), &[shape_of(&value)])?;
     code.push(alloc, Instr::Put(value))?;
-    let number = code.close(alloc)?;
-    Ok(number)
+    code.close(alloc)
 }

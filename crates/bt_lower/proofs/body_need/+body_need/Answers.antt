@@ -98,8 +98,11 @@ block_need-returns-in_err-one-clause-need t c = failed _ _ c.from_residual.resul
 pub block_need-returns-in_err-all-clause-need : goal.block_need-returns-in_err-all-clause-need
 block_need-returns-in_err-all-clause-need t c = failed _ _ c.from_residual-in_err-all.result c.from_residual-in_err-all.ensures.1
 
-pub otherwise_need-returns-in_err-block_need-in-Some-clause-need : goal.otherwise_need-returns-in_err-block_need-in-Some-clause-need
-otherwise_need-returns-in_err-block_need-in-Some-clause-need t c = failed _ _ c.from_residual.result c.from_residual.ensures.1
+pub otherwise_need-returns-in-Some-clause-need : goal.otherwise_need-returns-in-Some-clause-need
+otherwise_need-returns-in-Some-clause-need t c = same _ _ _ c.block_need.ensures.need (sym (ap tree_else_need c.in-Some.is))
+
+pub otherwise_need-returns-in-Some-clause-beyond : goal.otherwise_need-returns-in-Some-clause-beyond
+otherwise_need-returns-in-Some-clause-beyond t c = same-beyond _ _ _ c.block_need.ensures.beyond (sym (ap tree_else_need c.in-Some.is))
 
 pub stmt_need-returns-in-SetVar-clause-need : goal.stmt_need-returns-in-SetVar-clause-need
 stmt_need-returns-in-SetVar-clause-need t c = same _ _ _ c.set_variable_need.ensures.need (sym (set-var-is _ _ _ c.in-SetVar.is))

@@ -1,6 +1,7 @@
 use Rattle.std.proofs.Common.{refl}
+use Rattle.bt_lower.proofs.Arms.{at-ok}
 use Rattle.bt_lower.proofs.Single.{T-Clear}
 use Rattle.bt_lower.proofs.simple.clear.Goals as goal
 
 pub returns : goal.returns
-returns c = λ way. T-Clear _ _ way _ _ refl c.in_ok-push.ensures
+returns c = at-ok c.push.result c.push.ensures (λ made way. T-Clear _ _ way _ _ refl made)

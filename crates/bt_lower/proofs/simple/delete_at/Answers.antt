@@ -1,6 +1,7 @@
 use Rattle.std.proofs.Common.{refl}
+use Rattle.bt_lower.proofs.Arms.{at-ok}
 use Rattle.bt_lower.proofs.Single.{T-Delete}
 use Rattle.bt_lower.proofs.simple.delete_at.Goals as goal
 
 pub returns : goal.returns
-returns c = λ way. T-Delete _ _ _ _ _ way _ _ _ refl refl c.in_ok-key.ensures c.in_ok-push.ensures c.in_ok-lower_values.ensures
+returns c = at-ok c.lower_values.result c.lower_values.ensures (λ lowered way. T-Delete _ _ _ _ _ way _ _ _ refl refl c.in_ok-key.ensures c.in_ok-push.ensures lowered)

@@ -9,7 +9,7 @@ use Rattle.std.specs.Prelude.{ℤ}
 use Rattle.bt_core.specs.declared.value.Value.TheVariants.{Int}
 use Rattle.ir_code.specs.declared.instr.Instr.TheVariants as i
 use Rattle.bt_lower.specs.Code.{pushed}
-use Rattle.bt_lower.proofs.Arms.{at-ok}
+use Rattle.bt_lower.proofs.Arms.{at-ok, on-number, with-number}
 use Rattle.bt_lower.proofs.Branches.{Else-none, Else-some, Arms-start, Arms-more, Arms-next, T-If, T-If-none, T-If-else}
 use Rattle.bt_lower.proofs.Jumps.{Same, Same-single}
 use Rattle.bt_lower.proofs.Rest.{Rest-start, Rest-next, Rest-end}
@@ -79,34 +79,36 @@ pub lower_block-returns : goal.lower_block-returns
 lower_block-returns t c = Rest-end _ _ c.loop-left.left _ _ _ (omega (arith, c.loop-left-test.false)) c.as_slice-stmts.ensures c.loop-left.invariant.lowered
 
 pub lower_into-returns : goal.lower_into-returns
-lower_into-returns t c = Lowers-into _ _ _ _ _ _ _ _ _ _ c.in_ok-begin.ensures c.in_ok-lower_block.ensures c.in_ok-number.ensures.closed c.in_ok-number.ensures.number
+lower_into-returns t c = with-number _ _ c.close.result c.close.ensures.closed c.close.ensures.number (λ closed number is. Lowers-into _ _ _ _ _ _ _ _ _ _ c.in_ok-begin.ensures c.in_ok-lower_block.ensures closed is)
 
 pub lower_else-returns-in-None : goal.lower_else-returns-in-None
 lower_else-returns-in-None t c = Else-none _ _ _ _ c.in-None.is
 
-pub lower_else-returns-in_ok-number-in-Some : goal.lower_else-returns-in_ok-number-in-Some
-lower_else-returns-in_ok-number-in-Some t c = Else-some _ _ _ _ _ _ _ c.in-Some.is c.in_ok-number-in-Some.ensures
+pub lower_else-returns-in-Some : goal.lower_else-returns-in-Some
+lower_else-returns-in-Some t c = on-number _ _ c.lower_into.result c.lower_into.ensures (λ number lowered. Else-some _ _ _ _ _ _ _ c.in-Some.is lowered)
 
 pub lower_while-returns : goal.lower_while-returns
-lower_while-returns t c = λ way. T-While _ _ _ _ _ _ _ _ _ way _ _ _ _ _ _ _ _ _ _ _ c.in_ok-leave.ensures.closed c.in_ok-leave.ensures.number c.in_ok-cut.ensures.made c.in_ok-cut.ensures.number c.in_ok-again.ensures.reserved c.in_ok-again.ensures.number c.in_ok-turn.ensures c.gate.ensures c.in_ok-first.ensures.closed c.in_ok-first.ensures.number c.in_ok-begin.ensures c.in_ok-lower_number.ensures c.in_ok-head.ensures.closed c.in_ok-head.ensures.number c.in_ok-patch.ensures
+lower_while-returns t c = at-ok c.patch.result c.patch.ensures (λ patched way. T-While _ _ _ _ _ _ _ _ _ way _ _ _ _ _ _ _ _ _ _ _ c.in_ok-leave.ensures.closed c.in_ok-leave.ensures.number c.in_ok-cut.ensures.made c.in_ok-cut.ensures.number c.in_ok-again.ensures.reserved c.in_ok-again.ensures.number c.in_ok-turn.ensures c.gate.ensures c.in_ok-first.ensures.closed c.in_ok-first.ensures.number refl c.in_ok-lower_test.ensures c.in_ok-head.ensures.closed c.in_ok-head.ensures.number patched)
 
 pub lower_stmt-returns-in-If : goal.lower_stmt-returns-in-If
 lower_stmt-returns-in-If t c = at-ok c.lower_if.result c.lower_if.ensures (λ lowered. lowered _ _ c.in-If.is)
 
-pub lower_only_else-returns-in_ok-lower_block-in-Some : goal.lower_only_else-returns-in_ok-lower_block-in-Some
-lower_only_else-returns-in_ok-lower_block-in-Some t c = T-If-else _ _ _ _ _ c.in-Some.is c.in_ok-lower_block-in-Some.ensures
+pub lower_only_else-returns-in-Some : goal.lower_only_else-returns-in-Some
+lower_only_else-returns-in-Some t c = at-ok c.lower_block.result c.lower_block.ensures (T-If-else _ _ _ _ _ c.in-Some.is)
 
 pub lower_only_else-returns-in-None : goal.lower_only_else-returns-in-None
 lower_only_else-returns-in-None t c = T-If-none _ _ _ c.in-None.is
 
 pub lower_arm-returns : goal.lower_arm-returns
-lower_arm-returns t c = λ arms o first ls. Arms-more _ arms o _ _ _ _ _ first _ _ _ _ _ ls c.in_ok-first.ensures c.in_ok-begin.ensures c.in_ok-lower_number.ensures c.in_ok-number.ensures.closed c.in_ok-number.ensures.number
+lower_arm-returns t c =
+    with-number _ _ c.close.result c.close.ensures.closed c.close.ensures.number
+    (λ closed number is arms o first ls. Arms-more _ arms o _ _ _ _ _ first _ _ _ _ _ ls c.in_ok-first.ensures refl c.in_ok-lower_test.ensures closed is)
 
 pub lower_unroll-returns : goal.lower_unroll-returns
 lower_unroll-returns t c =
     let fits : SFits w64 c.from.result = search rules in
-    let made = simp to_z-of_z at (c.in_ok-push-2).ensures in
-    λ way. unroll-steps _ _ _ _ _ _ _ _ _ c.in_ok-push.ensures c.in_ok-leave.ensures.closed c.in_ok-leave.ensures.number c.in_ok-cut.ensures.made c.in_ok-cut.ensures.number c.in_ok-again.ensures.reserved c.in_ok-again.ensures.number _ _ way _ _ _ _ _ _ _ _ _ _ c.in_ok-turn.ensures c.gate.ensures c.in_ok-gate.ensures.closed c.in_ok-gate.ensures.number c.in_ok-begin.ensures c.in_ok-head.ensures.closed c.in_ok-head.ensures.number c.in_ok-patch.ensures (made ∙ ap (λ (n : ℤ). pushed (i.Put (Int n)) c.patch.new.self) c.from.ensures)
+    let made = simp to_z-of_z at (c.push-2).ensures in
+    at-ok (c.push-2).result made (λ pushed_last way. unroll-steps _ _ _ _ _ _ _ _ _ c.in_ok-push.ensures c.in_ok-leave.ensures.closed c.in_ok-leave.ensures.number c.in_ok-cut.ensures.made c.in_ok-cut.ensures.number c.in_ok-again.ensures.reserved c.in_ok-again.ensures.number _ _ way _ _ _ _ _ _ _ _ _ _ c.in_ok-turn.ensures c.gate.ensures c.in_ok-gate.ensures.closed c.in_ok-gate.ensures.number c.in_ok-begin.ensures c.in_ok-head.ensures.closed c.in_ok-head.ensures.number c.in_ok-patch.ensures (pushed_last ∙ ap (λ (n : ℤ). pushed (i.Put (Int n)) c.patch.new.self) c.from.ensures))
 
 pub lower_if-loop-left-init : goal.lower_if-loop-left-init
 lower_if-loop-left-init t c = record { within = omega arith; lowered = Arms-start _ _ _ _ _ _ _ _ c.args.code.now c.close.new.self _ c.in-If.is c.as_slice-arms.ensures refl c.in_ok-after.ensures.closed c.in_ok-next.ensures }
@@ -123,23 +125,14 @@ lower_if-loop-left-preserved t c = record {
 pub lower_if-returns-in_ok-begin : goal.lower_if-returns-in_ok-begin
 lower_if-returns-in_ok-begin t c = λ arms o is. T-If _ _ c.loop-left.left _ _ _ _ _ _ (omega (arith, c.if-left-eq0.false)) (omega (arith, c.loop-left-test.false)) c.in_ok-after.ensures.number c.loop-left.invariant.lowered c.in_ok-begin.ensures
 
-pub lower_arm-returns-in_err-begin : goal.lower_arm-returns-in_err-begin
-lower_arm-returns-in_err-begin t c = failed _ _ c.from_residual-in_err-begin.result c.from_residual-in_err-begin.ensures.1
-
 pub lower_arm-returns-in_err-first : goal.lower_arm-returns-in_err-first
 lower_arm-returns-in_err-first t c = failed _ _ c.from_residual.result c.from_residual.ensures.1
 
-pub lower_arm-returns-in_err-lower_number : goal.lower_arm-returns-in_err-lower_number
-lower_arm-returns-in_err-lower_number t c = failed _ _ c.from_residual-in_err-lower_number.result c.from_residual-in_err-lower_number.ensures.1
-
-pub lower_arm-returns-in_err-number : goal.lower_arm-returns-in_err-number
-lower_arm-returns-in_err-number t c = failed _ _ c.from_residual-in_err-number.result c.from_residual-in_err-number.ensures.1
+pub lower_arm-returns-in_err-lower_test : goal.lower_arm-returns-in_err-lower_test
+lower_arm-returns-in_err-lower_test t c = failed _ _ c.from_residual-in_err-lower_test.result c.from_residual-in_err-lower_test.ensures.1
 
 pub lower_block-returns-in_err-lower_stmt : goal.lower_block-returns-in_err-lower_stmt
 lower_block-returns-in_err-lower_stmt t c = on-failed _ _ c.from_residual.result c.from_residual.ensures.1
-
-pub lower_else-returns-in_err-number-in-Some : goal.lower_else-returns-in_err-number-in-Some
-lower_else-returns-in_err-number-in-Some t c = failed _ _ c.from_residual.result c.from_residual.ensures.1
 
 pub lower_if-returns-in_err-after : goal.lower_if-returns-in_err-after
 lower_if-returns-in_err-after t c = on-failed _ _ c.from_residual.result c.from_residual.ensures.1
@@ -158,12 +151,6 @@ lower_into-returns-in_err-begin t c = failed _ _ c.from_residual.result c.from_r
 
 pub lower_into-returns-in_err-lower_block : goal.lower_into-returns-in_err-lower_block
 lower_into-returns-in_err-lower_block t c = failed _ _ c.from_residual-in_err-lower_block.result c.from_residual-in_err-lower_block.ensures.1
-
-pub lower_into-returns-in_err-number : goal.lower_into-returns-in_err-number
-lower_into-returns-in_err-number t c = failed _ _ c.from_residual-in_err-number.result c.from_residual-in_err-number.ensures.1
-
-pub lower_only_else-returns-in_err-lower_block-in-Some : goal.lower_only_else-returns-in_err-lower_block-in-Some
-lower_only_else-returns-in_err-lower_block-in-Some t c = on-failed _ _ c.from_residual.result c.from_residual.ensures.1
 
 pub lower_unroll-returns-in_err-again : goal.lower_unroll-returns-in_err-again
 lower_unroll-returns-in_err-again t c = on-failed _ _ c.from_residual-in_err-again.result c.from_residual-in_err-again.ensures.1
@@ -189,17 +176,11 @@ lower_unroll-returns-in_err-patch t c = on-failed _ _ c.from_residual-in_err-pat
 pub lower_unroll-returns-in_err-push : goal.lower_unroll-returns-in_err-push
 lower_unroll-returns-in_err-push t c = on-failed _ _ c.from_residual.result c.from_residual.ensures.1
 
-pub lower_unroll-returns-in_err-push-2 : goal.lower_unroll-returns-in_err-push-2
-lower_unroll-returns-in_err-push-2 t c = on-failed _ _ (c.from_residual-in_err-push-2).result (c.from_residual-in_err-push-2).ensures.1
-
 pub lower_unroll-returns-in_err-turn : goal.lower_unroll-returns-in_err-turn
 lower_unroll-returns-in_err-turn t c = on-failed _ _ c.from_residual-in_err-turn.result c.from_residual-in_err-turn.ensures.1
 
 pub lower_while-returns-in_err-again : goal.lower_while-returns-in_err-again
 lower_while-returns-in_err-again t c = on-failed _ _ c.from_residual-in_err-again.result c.from_residual-in_err-again.ensures.1
-
-pub lower_while-returns-in_err-begin : goal.lower_while-returns-in_err-begin
-lower_while-returns-in_err-begin t c = on-failed _ _ c.from_residual-in_err-begin.result c.from_residual-in_err-begin.ensures.1
 
 pub lower_while-returns-in_err-cut : goal.lower_while-returns-in_err-cut
 lower_while-returns-in_err-cut t c = on-failed _ _ c.from_residual-in_err-cut.result c.from_residual-in_err-cut.ensures.1
@@ -213,11 +194,8 @@ lower_while-returns-in_err-head t c = on-failed _ _ c.from_residual-in_err-head.
 pub lower_while-returns-in_err-leave : goal.lower_while-returns-in_err-leave
 lower_while-returns-in_err-leave t c = on-failed _ _ c.from_residual.result c.from_residual.ensures.1
 
-pub lower_while-returns-in_err-lower_number : goal.lower_while-returns-in_err-lower_number
-lower_while-returns-in_err-lower_number t c = on-failed _ _ c.from_residual-in_err-lower_number.result c.from_residual-in_err-lower_number.ensures.1
-
-pub lower_while-returns-in_err-patch : goal.lower_while-returns-in_err-patch
-lower_while-returns-in_err-patch t c = on-failed _ _ c.from_residual-in_err-patch.result c.from_residual-in_err-patch.ensures.1
+pub lower_while-returns-in_err-lower_test : goal.lower_while-returns-in_err-lower_test
+lower_while-returns-in_err-lower_test t c = on-failed _ _ c.from_residual-in_err-lower_test.result c.from_residual-in_err-lower_test.ensures.1
 
 pub lower_while-returns-in_err-turn : goal.lower_while-returns-in_err-turn
 lower_while-returns-in_err-turn t c = on-failed _ _ c.from_residual-in_err-turn.result c.from_residual-in_err-turn.ensures.1

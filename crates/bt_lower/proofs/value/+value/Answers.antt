@@ -1,11 +1,12 @@
-use Rattle.std.proofs.Common.{length, ◌∙◌, ap, arith, SFits, w64, rules, refl}
+use Rattle.std.proofs.Common.{length, ◌∙◌, ap, arith, SFits, w64, rules, refl, subst}
 use Rattle.std.proofs.lemmas.Int.{to_z-of_z}
 use Rattle.typed_tree.specs.Parts.{key_shapes}
 use Rattle.ir_code.specs.declared.instr.Instr.TheVariants as i
 use Rattle.bt_core.specs.declared.value.Value.TheVariants.{Str}
 use Rattle.bt_lower.specs.Code.{pushed}
-use Rattle.bt_lower.specs.Lowers.{all_made}
-use Rattle.bt_lower.proofs.Arms.{N-Number, N-Builtin, N-Field, N-Var, N-Map, N-Agg, N-StepVar, N-StepMap, N-Unary, N-Binary, N-Compare, N-AndThen, N-OrElse, N-Choose, S-Text, S-Comm, S-Field, S-Var, S-Map, S-Choose, List-start, List-next, Tested-arm, at-ok}
+use Rattle.bt_lower.specs.Lowers.{LowersNumber, all_made}
+use Rattle.bt_lower.specs.declared.code.Code.{Code}
+use Rattle.bt_lower.proofs.Arms.{A-Num, A-Str, N-Number, N-Builtin, N-Field, N-Var, N-Map, N-Agg, N-StepVar, N-StepMap, N-Unary, N-Binary, N-Compare, N-AndThen, N-OrElse, N-Choose, S-Text, S-Comm, S-Field, S-Var, S-Map, S-Choose, List-start, List-next, Tested-arm, at-ok, with-number}
 use Rattle.bt_lower.proofs.Choices.{Lowers-arm}
 use Rattle.bt_lower.proofs.Measured.{failed as if-failed, on-failed as failed}
 use Rattle.bt_lower.proofs.value.+value.Goals as goal
@@ -54,29 +55,29 @@ pub lower_number-returns-in_ok-lower_text-in-Compare : goal.lower_number-returns
 lower_number-returns-in_ok-lower_text-in-Compare t c = at-ok c.lower_text-in-Compare.result c.lower_text-in-Compare.ensures
     (N-Compare _ _ _ _ _ _ _ _ _ _ c.in-Compare.is (c.get-in-Compare-2).ensures c.get-in-Compare.ensures c.in_ok-push-in-Compare.ensures c.in_ok-lower_text-in-Compare.ensures)
 
-pub lower_number-returns-in_ok-begin-in-AndThen : goal.lower_number-returns-in_ok-begin-in-AndThen
-lower_number-returns-in_ok-begin-in-AndThen t c =
-    at-ok c.lower_number-in-AndThen.result c.lower_number-in-AndThen.ensures
-    (N-AndThen _ _ _ _ _ _ _ _ _ _ _ _ _ _ _ _ c.in-AndThen.is (c.get-in-AndThen-2).ensures c.get-in-AndThen.ensures refl c.in_ok-after-in-AndThen.ensures.closed c.in_ok-after-in-AndThen.ensures.number c.untype.ensures c.in_ok-second-in-AndThen.ensures c.in_ok-first-in-AndThen.ensures c.in_ok-begin-in-AndThen.ensures)
+pub lower_number-returns-in_ok-first-in-AndThen : goal.lower_number-returns-in_ok-first-in-AndThen
+lower_number-returns-in_ok-first-in-AndThen t c =
+    at-ok c.lower_test.result c.lower_test.ensures
+    (N-AndThen _ _ _ _ _ _ _ _ _ _ _ _ _ _ _ _ c.in-AndThen.is (c.get-in-AndThen-2).ensures c.get-in-AndThen.ensures refl refl c.in_ok-after-in-AndThen.ensures.number c.in_ok-after-in-AndThen.ensures.closed c.in_ok-second-in-AndThen.ensures c.in_ok-first-in-AndThen.ensures refl)
 
-pub lower_number-returns-in_ok-begin-in-OrElse : goal.lower_number-returns-in_ok-begin-in-OrElse
-lower_number-returns-in_ok-begin-in-OrElse t c =
-    at-ok c.lower_number-in-OrElse.result c.lower_number-in-OrElse.ensures
-    (N-OrElse _ _ _ _ _ _ _ _ _ _ _ _ _ _ _ _ c.in-OrElse.is (c.get-in-OrElse-2).ensures c.get-in-OrElse.ensures refl c.in_ok-after-in-OrElse.ensures.closed c.in_ok-after-in-OrElse.ensures.number c.untype-in-OrElse.ensures c.in_ok-second-in-OrElse.ensures c.in_ok-first-in-OrElse.ensures c.in_ok-begin-in-OrElse.ensures)
+pub lower_number-returns-in_ok-first-in-OrElse : goal.lower_number-returns-in_ok-first-in-OrElse
+lower_number-returns-in_ok-first-in-OrElse t c =
+    at-ok c.lower_test-in-OrElse.result c.lower_test-in-OrElse.ensures
+    (N-OrElse _ _ _ _ _ _ _ _ _ _ _ _ _ _ _ _ c.in-OrElse.is (c.get-in-OrElse-2).ensures c.get-in-OrElse.ensures refl refl c.in_ok-after-in-OrElse.ensures.number c.in_ok-after-in-OrElse.ensures.closed c.in_ok-second-in-OrElse.ensures c.in_ok-first-in-OrElse.ensures refl)
 
-pub lower_number-returns-in_ok-begin-in-Choose : goal.lower_number-returns-in_ok-begin-in-Choose
-lower_number-returns-in_ok-begin-in-Choose t c =
-    at-ok c.lower_number-in-Choose.result c.lower_number-in-Choose.ensures
-    (N-Choose _ _ _ _ _ _ _ _ _ _ _ _ _ _ _ _ _ c.in-Choose.is (c.get-in-Choose-3).ensures (c.get-in-Choose-2).ensures c.get-in-Choose.ensures c.in_ok-after-in-Choose.ensures.closed c.in_ok-after-in-Choose.ensures.number c.untype-in-Choose.ensures c.in_ok-second-in-Choose.ensures c.in_ok-first-in-Choose.ensures c.in_ok-begin-in-Choose.ensures)
+pub lower_number-returns-in_ok-first-in-Choose : goal.lower_number-returns-in_ok-first-in-Choose
+lower_number-returns-in_ok-first-in-Choose t c =
+    at-ok c.lower_test-in-Choose.result c.lower_test-in-Choose.ensures
+    (N-Choose _ _ _ _ _ _ _ _ _ _ _ _ _ _ _ _ _ c.in-Choose.is (c.get-in-Choose-3).ensures (c.get-in-Choose-2).ensures c.get-in-Choose.ensures refl c.in_ok-after-in-Choose.ensures.number c.in_ok-after-in-Choose.ensures.closed c.in_ok-second-in-Choose.ensures c.in_ok-first-in-Choose.ensures refl)
 
 pub lower_number_arm-returns : goal.lower_number_arm-returns
-lower_number_arm-returns t c = Lowers-arm _ _ _ _ _ _ _ _ _ _ c.in_ok-begin.ensures c.in_ok-lower_number.ensures c.in_ok-number.ensures.closed c.in_ok-number.ensures.number
+lower_number_arm-returns t c = with-number _ _ c.close.result c.close.ensures.closed c.close.ensures.number (λ closed number is. Lowers-arm _ _ _ _ _ _ _ _ _ _ c.in_ok-begin.ensures c.in_ok-lower_number.ensures closed is)
 
 pub lower_text_arm-returns : goal.lower_text_arm-returns
-lower_text_arm-returns t c = Lowers-arm _ _ _ _ _ _ _ _ _ _ c.in_ok-begin.ensures c.in_ok-lower_text.ensures c.in_ok-number.ensures.closed c.in_ok-number.ensures.number
+lower_text_arm-returns t c = with-number _ _ c.close.result c.close.ensures.closed c.close.ensures.number (λ closed number is. Lowers-arm _ _ _ _ _ _ _ _ _ _ c.in_ok-begin.ensures c.in_ok-lower_text.ensures closed is)
 
 pub tested_arm-returns : goal.tested_arm-returns
-tested_arm-returns t c = Tested-arm _ _ _ _ _ _ _ _ c.in_ok-begin.ensures c.in_ok-push.ensures c.in_ok-lower_number.ensures c.in_ok-number.ensures.closed c.in_ok-number.ensures.number
+tested_arm-returns t c = with-number _ _ c.close.result c.close.ensures.closed c.close.ensures.number (λ closed number is. Tested-arm _ _ _ _ _ _ _ _ c.in_ok-begin.ensures c.in_ok-push.ensures c.in_ok-lower_number.ensures closed is)
 
 pub lower_text-returns-in-Text : goal.lower_text-returns-in-Text
 lower_text-returns-in-Text t c = at-ok c.push.result c.push.ensures (λ made. S-Text _ _ _ _ c.in-Text.is (made ∙ ap (λ s. pushed (i.Put (Str s)) c.args.code.now) c.copy.ensures))
@@ -95,10 +96,10 @@ lower_text-returns-in_ok-push_get-in-Map t c =
     let key = ap (λ l. key_shapes (all_made l)) c.as_slice.ensures in
     at-ok c.lower_values.result c.lower_values.ensures (S-Map _ _ _ _ _ _ _ _ c.in-Map.is c.as_slice-in-Map.ensures key c.in_ok-push_get-in-Map.ensures)
 
-pub lower_text-returns-in_ok-begin-in-Choose : goal.lower_text-returns-in_ok-begin-in-Choose
-lower_text-returns-in_ok-begin-in-Choose t c =
-    at-ok c.lower_number.result c.lower_number.ensures
-    (S-Choose _ _ _ _ _ _ _ _ _ _ _ _ _ _ _ _ _ c.in-Choose.is (c.get-in-Choose-2).ensures c.get-in-Choose.ensures c.get.ensures c.in_ok-after-in-Choose.ensures.closed c.in_ok-after-in-Choose.ensures.number c.untype.ensures c.in_ok-second-in-Choose.ensures c.in_ok-first-in-Choose.ensures c.in_ok-begin-in-Choose.ensures)
+pub lower_text-returns-in_ok-first-in-Choose : goal.lower_text-returns-in_ok-first-in-Choose
+lower_text-returns-in_ok-first-in-Choose t c =
+    at-ok c.lower_test.result c.lower_test.ensures
+    (S-Choose _ _ _ _ _ _ _ _ _ _ _ _ _ _ _ _ _ c.in-Choose.is (c.get-in-Choose-2).ensures c.get-in-Choose.ensures c.get.ensures refl c.in_ok-after-in-Choose.ensures.number c.in_ok-after-in-Choose.ensures.closed c.in_ok-second-in-Choose.ensures c.in_ok-first-in-Choose.ensures refl)
 
 pub lower_values-loop-left-init : goal.lower_values-loop-left-init
 lower_values-loop-left-init t c = record { within = omega arith; lowered = List-start c.args.es.now (length c.args.es.now) c.args.code.now refl }
@@ -114,15 +115,6 @@ lower_number-returns-in_err-after-in-Choose t c = failed _ _ c.from_residual-in_
 
 pub lower_number-returns-in_err-after-in-OrElse : goal.lower_number-returns-in_err-after-in-OrElse
 lower_number-returns-in_err-after-in-OrElse t c = failed _ _ c.from_residual-in_err-after-in-OrElse.result c.from_residual-in_err-after-in-OrElse.ensures.1
-
-pub lower_number-returns-in_err-begin-in-AndThen : goal.lower_number-returns-in_err-begin-in-AndThen
-lower_number-returns-in_err-begin-in-AndThen t c = failed _ _ c.from_residual-in_err-begin-in-AndThen.result c.from_residual-in_err-begin-in-AndThen.ensures.1
-
-pub lower_number-returns-in_err-begin-in-Choose : goal.lower_number-returns-in_err-begin-in-Choose
-lower_number-returns-in_err-begin-in-Choose t c = failed _ _ c.from_residual-in_err-begin-in-Choose.result c.from_residual-in_err-begin-in-Choose.ensures.1
-
-pub lower_number-returns-in_err-begin-in-OrElse : goal.lower_number-returns-in_err-begin-in-OrElse
-lower_number-returns-in_err-begin-in-OrElse t c = failed _ _ c.from_residual-in_err-begin-in-OrElse.result c.from_residual-in_err-begin-in-OrElse.ensures.1
 
 pub lower_number-returns-in_err-first-in-AndThen : goal.lower_number-returns-in_err-first-in-AndThen
 lower_number-returns-in_err-first-in-AndThen t c = failed _ _ c.from_residual-in_err-first-in-AndThen.result c.from_residual-in_err-first-in-AndThen.ensures.1
@@ -172,14 +164,8 @@ lower_number_arm-returns-in_err-begin t c = if-failed _ _ c.from_residual.result
 pub lower_number_arm-returns-in_err-lower_number : goal.lower_number_arm-returns-in_err-lower_number
 lower_number_arm-returns-in_err-lower_number t c = if-failed _ _ c.from_residual-in_err-lower_number.result c.from_residual-in_err-lower_number.ensures.1
 
-pub lower_number_arm-returns-in_err-number : goal.lower_number_arm-returns-in_err-number
-lower_number_arm-returns-in_err-number t c = if-failed _ _ c.from_residual-in_err-number.result c.from_residual-in_err-number.ensures.1
-
 pub lower_text-returns-in_err-after-in-Choose : goal.lower_text-returns-in_err-after-in-Choose
 lower_text-returns-in_err-after-in-Choose t c = failed _ _ c.from_residual-in_err-after-in-Choose.result c.from_residual-in_err-after-in-Choose.ensures.1
-
-pub lower_text-returns-in_err-begin-in-Choose : goal.lower_text-returns-in_err-begin-in-Choose
-lower_text-returns-in_err-begin-in-Choose t c = failed _ _ c.from_residual-in_err-begin-in-Choose.result c.from_residual-in_err-begin-in-Choose.ensures.1
 
 pub lower_text-returns-in_err-first-in-Choose : goal.lower_text-returns-in_err-first-in-Choose
 lower_text-returns-in_err-first-in-Choose t c = failed _ _ c.from_residual-in_err-first-in-Choose.result c.from_residual-in_err-first-in-Choose.ensures.1
@@ -196,15 +182,6 @@ lower_text_arm-returns-in_err-begin t c = if-failed _ _ c.from_residual.result c
 pub lower_text_arm-returns-in_err-lower_text : goal.lower_text_arm-returns-in_err-lower_text
 lower_text_arm-returns-in_err-lower_text t c = if-failed _ _ c.from_residual-in_err-lower_text.result c.from_residual-in_err-lower_text.ensures.1
 
-pub lower_text_arm-returns-in_err-number : goal.lower_text_arm-returns-in_err-number
-lower_text_arm-returns-in_err-number t c = if-failed _ _ c.from_residual-in_err-number.result c.from_residual-in_err-number.ensures.1
-
-pub lower_value-returns-in_err-lower_number-in-Num : goal.lower_value-returns-in_err-lower_number-in-Num
-lower_value-returns-in_err-lower_number-in-Num t c = failed _ _ c.from_residual.result c.from_residual.ensures.1
-
-pub lower_value-returns-in_err-lower_text-in-Str : goal.lower_value-returns-in_err-lower_text-in-Str
-lower_value-returns-in_err-lower_text-in-Str t c = failed _ _ c.from_residual-in_err-lower_text-in-Str.result c.from_residual-in_err-lower_text-in-Str.ensures.1
-
 pub lower_values-returns-in_err-lower_value : goal.lower_values-returns-in_err-lower_value
 lower_values-returns-in_err-lower_value t c = failed _ _ c.from_residual.result c.from_residual.ensures.1
 
@@ -214,8 +191,17 @@ tested_arm-returns-in_err-begin t c = if-failed _ _ c.from_residual.result c.fro
 pub tested_arm-returns-in_err-lower_number : goal.tested_arm-returns-in_err-lower_number
 tested_arm-returns-in_err-lower_number t c = if-failed _ _ c.from_residual-in_err-lower_number.result c.from_residual-in_err-lower_number.ensures.1
 
-pub tested_arm-returns-in_err-number : goal.tested_arm-returns-in_err-number
-tested_arm-returns-in_err-number t c = if-failed _ _ c.from_residual-in_err-number.result c.from_residual-in_err-number.ensures.1
-
 pub tested_arm-returns-in_err-push : goal.tested_arm-returns-in_err-push
 tested_arm-returns-in_err-push t c = if-failed _ _ c.from_residual-in_err-push.result c.from_residual-in_err-push.ensures.1
+
+pub lower_test-returns : goal.lower_test-returns
+lower_test-returns t c = at-ok c.lower_number.result c.lower_number.ensures (λ lowered. subst (λ (from : Code). LowersNumber c.args.test.now from c.lower_number.new.code) c.in_ok-begin.ensures lowered)
+
+pub lower_test-returns-in_err-begin : goal.lower_test-returns-in_err-begin
+lower_test-returns-in_err-begin t c = failed _ _ c.from_residual.result c.from_residual.ensures.1
+
+pub lower_value-returns-in-Num : goal.lower_value-returns-in-Num
+lower_value-returns-in-Num t c = at-ok c.lower_number.result c.lower_number.ensures (A-Num _ _ _ _ _ c.in-Num.is refl)
+
+pub lower_value-returns-in-Str : goal.lower_value-returns-in-Str
+lower_value-returns-in-Str t c = at-ok c.lower_text.result c.lower_text.ensures (A-Str _ _ _ _ _ c.in-Str.is refl)

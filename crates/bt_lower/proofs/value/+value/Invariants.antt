@@ -23,6 +23,9 @@ decreases-lower_text_arm l = 2 * goal.size-lower_text_arm l + 1
 abbrev pub decreases-tested_arm : goal.decreases-tested_arm
 decreases-tested_arm l = 2 * goal.size-tested_arm l + 1
 
+abbrev pub decreases-lower_test : goal.decreases-lower_test
+decreases-lower_test l = 2 * goal.size-lower_test l + 1
+
 abbrev pub invariant-lower_values-loop-left : goal.invariant-lower_values-loop-left
 invariant-lower_values-loop-left l = record {
   within : l.left ≤ length l.es;

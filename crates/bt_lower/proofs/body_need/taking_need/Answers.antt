@@ -1,0 +1,11 @@
+use Rattle.std.proofs.Common.{ap}
+use Rattle.bt_lower.specs.Needs.{more}
+use Rattle.bt_lower.specs.declared.need.Listed.{Listed}
+use Rattle.bt_lower.proofs.Measured.{same, same-beyond}
+use Rattle.bt_lower.proofs.body_need.taking_need.Goals as goal
+
+pub returns-clause-need : goal.returns-clause-need
+returns-clause-need c = same _ _ _ c.more.ensures.more (ap (λ (all : Listed). more 16 all.need) c.in_ok-values.ensures.need)
+
+pub returns-clause-beyond : goal.returns-clause-beyond
+returns-clause-beyond c = same-beyond _ _ _ c.more.ensures.beyond (ap (λ (all : Listed). more 16 all.need) c.in_ok-values.ensures.need)
