@@ -9,5 +9,6 @@ pub mod BlankLaws
 pub mod Mapped
 pub mod KeyLoop
 pub mod Answered
+pub mod Chained
 pub mod PushLaws
 pub mod ReadLaws

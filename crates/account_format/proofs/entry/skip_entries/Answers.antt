@@ -1,4 +1,5 @@
 use Rattle.std.proofs.Common.{◌≡◌, Some, None, refl, arith}
+use Rattle.std.proofs.lemmas.Bool.{false≢true}
 use Rattle.bt_core.specs.Ports.{Setting}
 use Rattle.account_format.specs.Reading.{entry_at}
 use Rattle.account_format.specs.Scopes.{setting_in}
@@ -27,7 +28,7 @@ returns-in_default-clause-whole c =
     let s : Setting = setting_in c.args.scope.now in
     let e : entry_at s c.loop-place.rest.now ≡ None = mapped_none seen c.in_ok-after.field-0 (entry_at s c.loop-place.rest.now) c.in_ok-after.ensures c.in_default.is in
     let stop = passed_stop s c.args.count c.loop-place._place c.args.bytes.now c.loop-place.rest.now c.loop-place-test.true c.loop-place.invariant e in
-    (λ yes. absurd cc, λ same. absurd (stop.1 same))
+    (λ yes. absurd (false≢true yes), λ same. absurd (stop.1 same))
 
 pub returns-clause-behind : goal.returns-clause-behind
 returns-clause-behind c =
