@@ -1,5 +1,5 @@
 -- Loops over words: each word has what a test asks for, as far as they were looked at.
-use Rattle.std.proofs.Common.{◌≡◌, ◌∙◌, ◌+◌, ◌<◌, ◌≤◌, ◌&&◌, ℕ, suc, Bool, true, false, List, ◌∷◌, String, Global, length, get_or, map, drop, drop-cons, add-one, string_bytes, ap, sym}
+use Rattle.std.proofs.Common.{◌≡◌, ◌∙◌, ◌+◌, ◌<◌, ◌≤◌, ◌&&◌, ℕ, suc, Bool, true, List, ◌∷◌, String, Global, length, get_or, map, drop, drop-cons, add-one, string_bytes, ap, sym}
 use Rattle.std.specs.List.{list_all}
 use Rattle.std.proofs.lemmas.List.{at_drop_all}
 
