@@ -43,19 +43,23 @@ event_read v bytes b1 b2 b3 b4 b5 b6 rest fits r0 r1 r2 r3 r4 r5 r6 =
       record { time = time.1; pid = pid.1; tid = tid.1; uid = uid.1; gid = gid.1; comm = comm.1; payload = payload.1 },
     )
 
+-- with the value of a step that did not fail
+step : {A B G : Type 0} (r : Option A) (f : A → Option B) (y : B) → (r >>= f) ≡ Some y → ((x : A) → r ≡ Some x → f x ≡ Some y → G) → G
+step r f y e then = let found = bind_some r f y e in then found.0 found.1 found.2
+
 event_takes : (bytes : List ℕ) (v : EventPart) (rest : List ℕ) → IsBytes bytes → event_at bytes ≡ Some (v, rest) → Takes bytes (event_bytes v) rest × IsEventPart v
 unfolding event_at
-event_takes bytes v rest fits e =
-    let a = bind_some (number_at w64 bytes) _ (v, rest) e in
-    let b = bind_some (number_at w32 a.0.1) _ (v, rest) a.2 in
-    let c = bind_some (number_at w32 b.0.1) _ (v, rest) b.2 in
-    let d = bind_some (number_at w32 c.0.1) _ (v, rest) c.2 in
-    let f = bind_some (number_at w32 d.0.1) _ (v, rest) d.2 in
-    let g = bind_some (bytes_at 16 f.0.1) _ (v, rest) f.2 in
-    let h = bind_some (sized_at w32 g.0.1) _ (v, rest) g.2 in
-    let made : EventPart = record { time = a.0.0; pid = b.0.0; tid = c.0.0; uid = d.0.0; gid = f.0.0; comm = g.0.0; payload = h.0.0 } in
-    subst (λ (p : EventPart × List ℕ). Takes bytes (event_bytes p.0) p.1 × IsEventPart p.0) (same_Some (made, h.0.1) (v, rest) h.2)
-    (event_read made bytes a.0.1 b.0.1 c.0.1 d.0.1 f.0.1 g.0.1 h.0.1 fits a.1 b.1 c.1 d.1 f.1 g.1 h.1)
+event_takes bytes v rest fits e0 =
+    step (number_at w64 bytes) _ (v, rest) e0 (λ time r0 e1.
+    step (number_at w32 time.1) _ (v, rest) e1 (λ pid r1 e2.
+    step (number_at w32 pid.1) _ (v, rest) e2 (λ tid r2 e3.
+    step (number_at w32 tid.1) _ (v, rest) e3 (λ uid r3 e4.
+    step (number_at w32 uid.1) _ (v, rest) e4 (λ gid r4 e5.
+    step (bytes_at 16 gid.1) _ (v, rest) e5 (λ comm r5 e6.
+    step (sized_at w32 comm.1) _ (v, rest) e6 (λ payload r6 e7.
+    let made : EventPart = record { time = time.0; pid = pid.0; tid = tid.0; uid = uid.0; gid = gid.0; comm = comm.0; payload = payload.0 } in
+    subst (λ (p : EventPart × List ℕ). Takes bytes (event_bytes p.0) p.1 × IsEventPart p.0) (same_Some (made, payload.1) (v, rest) e7)
+    (event_read made bytes time.1 pid.1 tid.1 uid.1 gid.1 comm.1 payload.1 fits r0 r1 r2 r3 r4 r5 r6))))))))
 
 event_again : (v : EventPart) (rest : List ℕ) → IsEventPart v → event_at (event_bytes v ++ rest) ≡ Some (v, rest)
 unfolding event_at

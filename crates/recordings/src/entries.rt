@@ -117,7 +117,9 @@ impl Entries {
     pub fn get(&self, place: usize) -> Option<EntryRef<'_>>
         ensures { option_map entry_seen result ≡ slice_get self.now place }
     {
-        let found = self.places.get(place)?;
+        let Some(found) = self.places.get(place) else {
+            return None;
+        };
         Some(entry_in((*self.file).as_slice(), *found))
     }
 }

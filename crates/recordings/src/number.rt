@@ -42,6 +42,8 @@ pub fn u64_at(bytes: &[u8]) -> Option<(u64, &[u8])>
 pub fn sized32_at(bytes: &[u8]) -> Option<(&[u8], &[u8])>
     ensures { option_map (λ piece. (piece.0.now, piece.1.now)) result ≡ sized_at w32 bytes.now }
 {
-    let (len, bytes) = u32_at(bytes)?;
+    let Some((len, bytes)) = u32_at(bytes) else {
+        return None;
+    };
     bytes_at(bytes, len as usize)
 }
