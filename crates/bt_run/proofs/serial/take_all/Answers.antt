@@ -25,8 +25,8 @@ came next old new item is gave = MatchOption-at_some ((old ≡ []) × (new ≡ [
 none_came : (next : Option Scheduled) (old new : List Scheduled) → next ≡ None → Gave next old new → old ≡ []
 none_came next old new is gave = (MatchOption-at_none ((old ≡ []) × (new ≡ [])) (λ item. old ≡ item ∷ new) is gave).0
 
-pub loop-going-init : goal.loop-going-init
-loop-going-init c =
+pub loop-item-init : goal.loop-item-init
+loop-item-init c =
     let P = replay_with c.args.job.now (plans_by c.args.job.now c.args.codes.now) in
     let all : c.in_ok-going.going.items ≡ replicate (cpus_in c.args.job.now) true =
     c.in_ok-going.ensures.items_if_clones_equal (λ y h. h) ∙ ap (λ (n : ℕ). replicate n true) c.len.ensures in
@@ -46,43 +46,43 @@ pub take_next-requires-clause-can_run : goal.take_next-requires-clause-can_run
 take_next-requires-clause-can_run c = c.requires.can_run
 
 pub take_next-requires-clause-among : goal.take_next-requires-clause-among
-take_next-requires-clause-among c = c.loop-going.invariant.among
+take_next-requires-clause-among c = c.loop-item.invariant.among
 
 pub take_next-requires-clause-world : goal.take_next-requires-clause-world
-take_next-requires-clause-world c = c.loop-going.invariant.world
+take_next-requires-clause-world c = c.loop-item.invariant.world
 
 pub take_next-requires-clause-long : goal.take_next-requires-clause-long
-take_next-requires-clause-long c = c.loop-going.invariant.long
+take_next-requires-clause-long c = c.loop-item.invariant.long
 
 pub returns-clause-serial : goal.returns-clause-serial
 returns-clause-serial c =
     let P = replay_with c.args.job.now (plans_by c.args.job.now c.args.codes.now) in
-    sym c.loop-going.invariant.left
-    ∙ ap (λ (l : List Scheduled). taken P l c.loop-going.going.items (map unstamped c.loop-going.port.steps)) (none_came _ c.loop-going.schedule c.next.new.self c.in_default.is c.next.ensures)
+    sym c.loop-item.invariant.left
+    ∙ ap (λ (l : List Scheduled). taken P l c.loop-item.going.items (map unstamped c.loop-item.port.steps)) (none_came _ c.loop-item.schedule c.next.new.self c.in_default.is c.next.ensures)
 
 pub returns-clause-counted : goal.returns-clause-counted
 returns-clause-counted c =
     let P = replay_with c.args.job.now (plans_by c.args.job.now c.args.codes.now) in
-    none_left c.loop-going.total _ _
-    (ap (λ (l : List Scheduled). taken_count P l c.loop-going.going.items (map unstamped c.loop-going.port.steps)) (none_came _ c.loop-going.schedule c.next.new.self c.in_default.is c.next.ensures)) c.loop-going.invariant.counted
+    none_left c.loop-item.total _ _
+    (ap (λ (l : List Scheduled). taken_count P l c.loop-item.going.items (map unstamped c.loop-item.port.steps)) (none_came _ c.loop-item.schedule c.next.new.self c.in_default.is c.next.ensures)) c.loop-item.invariant.counted
 
 pub returns-clause-world : goal.returns-clause-world
-returns-clause-world c = c.loop-going.invariant.world
+returns-clause-world c = c.loop-item.invariant.world
 
 pub returns-clause-among : goal.returns-clause-among
-returns-clause-among c = c.loop-going.invariant.among
+returns-clause-among c = c.loop-item.invariant.among
 
 pub returns-clause-begun : goal.returns-clause-begun
-returns-clause-begun c = c.loop-going.invariant.begun
+returns-clause-begun c = c.loop-item.invariant.begun
 
-pub loop-going-smaller : goal.loop-going-smaller
-loop-going-smaller c = let e = ap length (came _ c.loop-going.schedule c.next.new.self c.in-Some.item c.in-Some.is c.next.ensures) in omega (arith, e)
+pub loop-item-smaller : goal.loop-item-smaller
+loop-item-smaller c = let e = ap length (came _ c.loop-item.schedule c.next.new.self c.in-Some.item c.in-Some.is c.next.ensures) in omega (arith, e)
 
-pub loop-going-preserved : goal.loop-going-preserved
-loop-going-preserved c = let i = c.loop-going.invariant in let t = c.in_ok-count.ensures in
+pub loop-item-preserved : goal.loop-item-preserved
+loop-item-preserved c = let i = c.loop-item.invariant in let t = c.in_ok-count.ensures in
     record {
-      left = loop_steps c.args.job.now (plans_by c.args.job.now c.args.codes.now) c.loop-going.schedule c.next.new.self c.in-Some.item c.in_ok-count.count c.loop-going.going.items _ (map unstamped c.loop-going.port.steps) _ _ (came _ c.loop-going.schedule c.next.new.self c.in-Some.item c.in-Some.is c.next.ensures) t.next i.left;
-      counted = loop_counts c.args.job.now (plans_by c.args.job.now c.args.codes.now) c.loop-going.schedule c.next.new.self c.in-Some.item c.in_ok-count.count c.loop-going.total _ c.loop-going.going.items _ (map unstamped c.loop-going.port.steps) _ _ (came _ c.loop-going.schedule c.next.new.self c.in-Some.item c.in-Some.is c.next.ensures) t.next c.in_ok-total.ensures.both i.counted;
+      left = loop_steps c.args.job.now (plans_by c.args.job.now c.args.codes.now) c.loop-item.schedule c.next.new.self c.in-Some.item c.in_ok-count.count c.loop-item.going.items _ (map unstamped c.loop-item.port.steps) _ _ (came _ c.loop-item.schedule c.next.new.self c.in-Some.item c.in-Some.is c.next.ensures) t.next i.left;
+      counted = loop_counts c.args.job.now (plans_by c.args.job.now c.args.codes.now) c.loop-item.schedule c.next.new.self c.in-Some.item c.in_ok-count.count c.loop-item.total _ c.loop-item.going.items _ (map unstamped c.loop-item.port.steps) _ _ (came _ c.loop-item.schedule c.next.new.self c.in-Some.item c.in-Some.is c.next.ensures) t.next c.in_ok-total.ensures.both i.counted;
       long = t.long;
       world = t.world;
       among = t.among;

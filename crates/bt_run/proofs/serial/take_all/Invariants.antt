@@ -5,8 +5,8 @@ use Rattle.bt_run.specs.Counts.{taken_count}
 use Rattle.run_base.specs.Jobs.{cpus_in, plans_by, replay_with, world_for}
 use Rattle.bt_run.proofs.serial.take_all.Given as goal
 
-abbrev pub invariant-loop-going : goal.invariant-loop-going
-invariant-loop-going l = record {
+abbrev pub invariant-loop-item : goal.invariant-loop-item
+invariant-loop-item l = record {
   left : taken (replay_with l.job (plans_by l.job l.codes)) l.schedule l.going.items (map unstamped l.port.steps)
       ≡ taken (replay_with l.job (plans_by l.job l.codes)) l.fn.schedule (replicate (cpus_in l.job) true) (map unstamped l.fn.port.steps);
   counted : l.total + taken_count (replay_with l.job (plans_by l.job l.codes)) l.schedule l.going.items (map unstamped l.port.steps)
@@ -17,5 +17,5 @@ invariant-loop-going l = record {
   begun : l.port.turn.begun ≡ l.fn.port.turn.begun;
 }
 
-abbrev pub decreases-loop-going : goal.decreases-loop-going
-decreases-loop-going l = length l.schedule
+abbrev pub decreases-loop-item : goal.decreases-loop-item
+decreases-loop-item l = length l.schedule
