@@ -40,8 +40,7 @@ short_is : (bytes : List ℕ) → IsShortText (short_text bytes)
 short_is bytes =
     let m = min (length bytes) 63 in
     let len = length (take_while is_text_byte (take m bytes)) in
-    let stored = take len (take m bytes) in
-    subst IsShortText (kept_front bytes stored [] len m refl refl refl) (kept_IsShortText bytes stored [] len m refl refl refl).1
+    subst IsShortText (kept_front bytes bytes len m refl refl refl) (kept_IsShortText bytes bytes len m refl refl refl).1
 
 text_byte : (b : ℕ) → b ≢ 0 → is_text_byte b ≡ true
 text_byte b ne = grind arith

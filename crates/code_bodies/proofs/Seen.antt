@@ -25,8 +25,7 @@ short_is : (bytes : List ℕ) → IsShortText (short_text bytes)
 short_is bytes =
     let m = min (length bytes) 63 in
     let len = length (take_while is_text_byte (take m bytes)) in
-    let stored = take len (take m bytes) in
-    subst IsShortText (kept_front bytes stored [] len m refl refl refl) (kept_IsShortText bytes stored [] len m refl refl refl).1
+    subst IsShortText (kept_front bytes bytes len m refl refl refl) (kept_IsShortText bytes bytes len m refl refl refl).1
 
 while_bytes : (p : ℕ → Bool) (xs : List ℕ) → AreBytes xs → AreBytes (take_while p xs)
 while_bytes p [] h = tt
