@@ -1,5 +1,5 @@
 use Rattle.std.proofs.Common.{length}
 use Rattle.meaning_tests.proofs.schedules.items_of.Given as goal
 
-abbrev pub decreases-loop-items : goal.decreases-loop-items
-decreases-loop-items l = length l.schedule
+abbrev pub decreases-loop-item : goal.decreases-loop-item
+decreases-loop-item l = length l.schedule
