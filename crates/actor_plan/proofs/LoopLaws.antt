@@ -1,16 +1,16 @@
--- One step of the loops over entries and ticks.
-use Rattle.std.proofs.Common.{◌≡◌, ℕ, zero, suc, ◌+◌, ◌-◌, ◌<◌, ◌≤◌, Bool, true, false, List, [], ◌∷◌, ◌++◌, drop, length, get_or, refl, sym, ap, ◌∙◌, arith, append_assoc, append-nil}
-use Rattle.std.specs.Prelude.{nat_lt, slice_get, None, Some, if◌then◌else◌}
+-- The next one of the entries and ticks of a CPU.
+use Rattle.std.proofs.Common.{◌≡◌, ℕ, zero, suc, ◌+◌, ◌≤◌, Bool, true, false, List, [], ◌∷◌, ◌++◌, drop, length, refl, sym, ap, ◌∙◌, arith, add-zero}
+use Rattle.std.specs.Prelude.{nat_lt, slice_get, Option, None, Some, if◌then◌else◌}
 use Rattle.std.proofs.lemmas.Bool.Decides.{nat_tests}
 use Rattle.std.proofs.lemmas.Option.{slice_get_within, get_or_from_slice_get}
-use Rattle.std.proofs.lemmas.List.{at_drop_more, drop-drop, length-drop}
+use Rattle.std.proofs.lemmas.List.{at_drop_more}
 use Rattle.bt_ast.specs.declared.attached.Tick.{Tick}
 use Rattle.recordings.specs.declared.recording.Entry.{Entry}
 use Rattle.recordings.specs.Places.{entry_time}
 use Rattle.actor_plan.specs.declared.agenda.AgendaItem.{AgendaItem}
 use Rattle.actor_plan.specs.declared.agenda.AgendaItem.TheVariants as item
 use Rattle.actor_plan.specs.Agendas.{item_at}
-use Rattle.actor_plan.specs.Steps.{entries_on, earlier, earlier_count, taken, PushesEarlier}
+use Rattle.actor_plan.specs.Steps.{earlier, earlier_count, taken, is_tick_next}
 
 -- ---- lists by places
 
@@ -25,25 +25,9 @@ none_left [] (suc i) none = refl
 none_left (x ∷ xs) zero none = absurd cc
 none_left (x ∷ xs) (suc i) none = none_left xs i none
 
--- what was added with one item more, and what is to come behind it
-pub pushed : {X : Type 0} (old new : List X) (i j : X) (rest whole : List X) → new ≡ old ++ i ∷ [] → i ≡ j → whole ≡ j ∷ rest → new ++ rest ≡ old ++ whole
-pushed old new i j rest whole grew is cut =
-    ap (λ l. l ++ rest) grew ∙ append_assoc old (i ∷ []) rest ∙ ap (λ k. old ++ (k ∷ rest)) is ∙ ap (λ l. old ++ l) (sym cut)
-
 -- ---- entries
 
-pub one_entry : (entries : List Entry) (place : ℕ) (e : Entry) → slice_get entries place ≡ Some e → entries_on place (drop place entries) ≡ item_at place e ∷ entries_on (place + 1) (drop (place + 1) entries)
-one_entry entries place e at = from_place (entries_on place) entries place e at
-
 module _ (entries : List Entry) (time place : ℕ) (e : Entry) (at : slice_get entries place ≡ Some e) where
-  pub one_earlier : entry_time e < time → earlier time place (drop place entries) ≡ item_at place e ∷ earlier time (place + 1) (drop (place + 1) entries)
-  one_earlier lt = let less : nat_lt (entry_time e) time ≡ true = grind (arith, nat_tests) in
-      from_place (earlier time place) entries place e at ∙ ap (λ (b : Bool). if b then item_at place e ∷ earlier time (place + 1) (drop (place + 1) entries) else []) less
-
-  pub one_counted : entry_time e < time → earlier_count time (drop place entries) ≡ suc (earlier_count time (drop (place + 1) entries))
-  one_counted lt = let less : nat_lt (entry_time e) time ≡ true = grind (arith, nat_tests) in
-      from_place (earlier_count time) entries place e at ∙ ap (λ (b : Bool). if b then suc (earlier_count time (drop (place + 1) entries)) else 0) less
-
   pub none_earlier : time ≤ entry_time e → earlier time place (drop place entries) ≡ []
   none_earlier le = let not_less : nat_lt (entry_time e) time ≡ false = grind (arith, nat_tests) in
       from_place (earlier time place) entries place e at ∙ ap (λ (b : Bool). if b then item_at place e ∷ earlier time (place + 1) (drop (place + 1) entries) else []) not_less
@@ -51,15 +35,6 @@ module _ (entries : List Entry) (time place : ℕ) (e : Entry) (at : slice_get e
   pub none_counted : time ≤ entry_time e → earlier_count time (drop place entries) ≡ 0
   none_counted le = let not_less : nat_lt (entry_time e) time ≡ false = grind (arith, nat_tests) in
       from_place (earlier_count time) entries place e at ∙ ap (λ (b : Bool). if b then suc (earlier_count time (drop (place + 1) entries)) else 0) not_less
-
--- where no earlier one is left, all were added
-pub all_pushed : (entries : List Entry) (time from place : ℕ) (old items : List AgendaItem) → earlier time place (drop place entries) ≡ [] → earlier_count time (drop place entries) ≡ 0
-    → items ++ earlier time place (drop place entries) ≡ old ++ earlier time from (drop from entries)
-    → place + earlier_count time (drop place entries) ≡ from + earlier_count time (drop from entries) → PushesEarlier time from (drop from entries) old items place
-all_pushed entries time from place old items none no_more whole counted = record {
-  items = sym (ap (λ l. items ++ l) none ∙ append-nil items) ∙ whole;
-  next = omega (arith, no_more, counted);
-}
 
 -- ---- ticks
 
@@ -70,26 +45,63 @@ few_earlier time (e ∷ es) = elim (nat_lt (entry_time e) time) as (λ b. (if b 
   | false ↦ omega arith
 ]
 
-pub one_tick : (entries : List Entry) (ticks : List Tick) (first place : ℕ) (d : Tick) (old mid new : List AgendaItem) (next : ℕ) → place < length ticks
-    → PushesEarlier (get_or ticks place d).time first (drop first entries) old mid next → new ≡ mid ++ item.Tick place ∷ []
-    → new ++ taken next (drop next entries) (place + 1) (drop (place + 1) ticks) ≡ old ++ taken first (drop first entries) place (drop place ticks)
-one_tick entries ticks first place d old mid new next lt pushed grew =
-    let t = get_or ticks place d in
-    let es = drop first entries in
-    let n = earlier_count t.time es in
-    let rest = taken (first + n) (drop n es) (place + 1) (drop (place + 1) ticks) in
-    let here : taken first es place (drop place ticks) ≡ earlier t.time first es ++ item.Tick place ∷ rest =
-    at_drop_more (taken first es place) ticks place d lt in
-    let left : taken next (drop next entries) (place + 1) (drop (place + 1) ticks) ≡ rest =
-    (λ i. taken (pushed.next i) (drop (pushed.next i) entries) (place + 1) (drop (place + 1) ticks))
-    ∙ ap (λ l. taken (first + n) l (place + 1) (drop (place + 1) ticks)) (sym (drop-drop n first entries)) in
-    (λ i. (grew ∙ ap (λ l. l ++ item.Tick place ∷ []) pushed.items) i ++ left i)
-    ∙ append_assoc (old ++ earlier t.time first es) (item.Tick place ∷ []) rest
-    ∙ append_assoc old (earlier t.time first es) (item.Tick place ∷ rest)
-    ∙ ap (λ l. old ++ l) (sym here)
+-- ---- the next item
 
-pub next_within : (entries : List Entry) (first time next : ℕ) → first ≤ length entries → next ≡ first + earlier_count time (drop first entries) → next ≤ length entries
-next_within entries first time next within is =
-    let few = few_earlier time (drop first entries) in
-    let long : length (drop first entries) ≡ length entries - first = length-drop first entries in
-    omega arith
+never : {P : Type 0} → false ≡ true → P
+never h = absurd cc
+
+-- an entry before the tick's time
+head_earlier : (place number : ℕ) (e : Entry) (es : List Entry) (t : Tick) (ts : List Tick) → nat_lt (entry_time e) t.time ≡ true
+    → taken place (e ∷ es) number (t ∷ ts) ≡ item_at place e ∷ taken (place + 1) es number (t ∷ ts)
+head_earlier place number e es t ts less =
+    let n = earlier_count t.time es in
+    let next : place + suc n ≡ place + 1 + n = omega arith in
+    rw less (ap (λ m. item_at place e ∷ (earlier t.time (place + 1) es ++ item.Tick number ∷ taken m (drop n es) (number + 1) ts)) next)
+
+module _ (entries : List Entry) (ticks : List Tick) where
+  -- what is to come, from these places on
+  abbrev pub to_come : ℕ → ℕ → List AgendaItem
+  to_come place number = taken place (drop place entries) number (drop number ticks)
+
+  module _ (place number : ℕ) where
+    none_before : (t : Tick) (o : Option Entry) → slice_get entries place ≡ o → is_tick_next (Some t) o ≡ true
+        → (earlier t.time place (drop place entries) ≡ []) × (earlier_count t.time (drop place entries) ≡ 0)
+    none_before t None at first = let left = none_left entries place at in (ap (earlier t.time place) left, ap (earlier_count t.time) left)
+    none_before t (Some e) at first =
+        let le : t.time ≤ entry_time e = grind (arith, nat_tests, first) in
+        (none_earlier entries t.time place e at le, none_counted entries t.time place e at le)
+
+    next_tick : (o : Option Tick) → slice_get ticks number ≡ o → is_tick_next o (slice_get entries place) ≡ true → to_come place number ≡ item.Tick number ∷ to_come place (number + 1)
+    next_tick None at first = never first
+    next_tick (Some t) at first =
+        let none = none_before t (slice_get entries place) refl first in
+        from_place (taken place (drop place entries) number) ticks number t at
+        ∙ (λ i. none.0 i ++ item.Tick number ∷ taken (place + none.1 i) (drop (none.1 i) (drop place entries)) (number + 1) (drop (number + 1) ticks))
+        ∙ ap (λ n. item.Tick number ∷ taken n (drop place entries) (number + 1) (drop (number + 1) ticks)) (add-zero place)
+
+    pub tick_is_next : is_tick_next (slice_get ticks number) (slice_get entries place) ≡ true → to_come place number ≡ item.Tick number ∷ to_come place (number + 1)
+    tick_is_next first = next_tick (slice_get ticks number) refl first
+
+    next_entry : (e : Entry) (o : Option Tick) → slice_get ticks number ≡ o → is_tick_next o (Some e) ≡ false
+        → taken place (e ∷ drop (place + 1) entries) number (drop number ticks) ≡ item_at place e ∷ to_come (place + 1) number
+    next_entry e None at later = let left = none_left ticks number at in
+        ap (taken place (e ∷ drop (place + 1) entries) number) left
+        ∙ sym (ap (λ l. item_at place e ∷ taken (place + 1) (drop (place + 1) entries) number l) left)
+    next_entry e (Some t) at later =
+        let less : nat_lt (entry_time e) t.time ≡ true = grind (arith, nat_tests, later) in
+        let es = drop (place + 1) entries in
+        from_place (taken place (e ∷ es) number) ticks number t at
+        ∙ head_earlier place number e es t (drop (number + 1) ticks) less
+        ∙ sym (ap (λ l. item_at place e ∷ l) (from_place (taken (place + 1) es number) ticks number t at))
+
+    pub entry_is_next : (e : Entry) → slice_get entries place ≡ Some e → is_tick_next (slice_get ticks number) (Some e) ≡ false → to_come place number ≡ item_at place e ∷ to_come (place + 1) number
+    entry_is_next e at later =
+        from_place (λ l. taken place l number (drop number ticks)) entries place e at ∙ next_entry e (slice_get ticks number) refl later
+
+    no_tick : (o : Option Tick) → is_tick_next o None ≡ false → o ≡ None
+    no_tick None later = refl
+    no_tick (Some t) later = never (sym later)
+
+    pub none_is_next : slice_get entries place ≡ None → is_tick_next (slice_get ticks number) None ≡ false → to_come place number ≡ []
+    none_is_next at later =
+        (λ i. taken place (none_left entries place at i) number (none_left ticks number (no_tick (slice_get ticks number) later) i))

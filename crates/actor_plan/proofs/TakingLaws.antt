@@ -1,6 +1,5 @@
 -- Items taken one after the other.
-use Rattle.std.proofs.Common.{◌≡◌, ℕ, ◌+◌, ◌<◌, ◌≤◌, Bool, true, false, List, [], ◌∷◌, drop, length, get_or, refl, sym, ap, ◌∙◌, subst, add-zero}
-use Rattle.std.proofs.lemmas.List.{at_drop_more, at_drop_all}
+use Rattle.std.proofs.Common.{◌≡◌, ℕ, ◌+◌, Bool, true, false, List, [], ◌∷◌, refl, sym, ap, ◌∙◌, subst, add-zero}
 use Rattle.bt_core.specs.declared.step.Step.{Step}
 use Rattle.bt_core.specs.Interaction.{Interaction, and_then, Ended, Left, Whole, Part}
 use Rattle.bt_core.proofs.InteractionLaws.{Left-here, Left-and_then, Left-is, Left-Part, Left-Whole, Part-after, Part-and_then, Whole-and_then, Whole-Ended, and_then_assoc, and_then-Ended}
@@ -55,32 +54,33 @@ module _ {I : Type 0} (checks : Bool) (work : I → Interaction ℕ) where
       ∙ and_then_assoc (program (i ∷ [])) (then_program (program items)) (λ q. Ended (after_count total q))
       ∙ ap (and_then (program (i ∷ []))) (λ k o. sym (then_counted (program items) total o) k)
 
-  module _ (items : List I) (i total : ℕ) (d : I) (old mid : List Step) (left : Left (program items) old mid (counted total (drop i items))) where
-    abbrev pub rest : Outcome → Interaction Outcome
-    rest o = then_program (program (drop (i + 1) items)) (after_count total o)
+  module _ (items todo : List I) (total : ℕ) (old mid : List Step) (left : Left (program items) old mid (counted total todo)) where
+    module _ (i : I) (others : List I) (is : todo ≡ i ∷ others) where
+      abbrev pub rest : Outcome → Interaction Outcome
+      rest o = then_program (program others) (after_count total o)
 
-    next : i < length items → Left (program items) old mid (and_then (program (get_or items i d ∷ [])) rest)
-    next lt = Left-is (program items) (counted total (drop i items)) (and_then (program (get_or items i d ∷ [])) rest) old mid left
-        (at_drop_more (counted total) items i d lt ∙ one_more total (get_or items i d) (drop (i + 1) items))
+      next : Left (program items) old mid (and_then (program (i ∷ [])) rest)
+      next = Left-is (program items) (counted total todo) (and_then (program (i ∷ [])) rest) old mid left
+          (ap (counted total) is ∙ one_more total i others)
 
-    pub item_stops : (new : List Step) → i < length items → Part (program (get_or items i d ∷ [])) mid new → Part (program items) old new
-    item_stops new lt part = Left-Part (program items) (and_then (program (get_or items i d ∷ [])) rest) old mid new (next lt) (Part-and_then (program (get_or items i d ∷ [])) rest mid new part)
+      pub item_stops : (new : List Step) → Part (program (i ∷ [])) mid new → Part (program items) old new
+      item_stops new part = Left-Part (program items) (and_then (program (i ∷ [])) rest) old mid new next (Part-and_then (program (i ∷ [])) rest mid new part)
 
-    taken : (new : List Step) (o : Outcome) (b : Bool) → o.to_end ≡ b → i < length items → Whole (program (get_or items i d ∷ [])) mid new o
-        → Left (program items) old new (then_program (program (drop (i + 1) items)) (record { to_end = b; instructions = total + o.instructions }))
-    taken new o b is lt whole = subst (λ (z : Bool). Left (program items) old new (then_program (program (drop (i + 1) items)) (record { to_end = z; instructions = total + o.instructions }))) is
-        (Left-and_then (program items) (program (get_or items i d ∷ [])) rest old mid new o (next lt) whole)
+      taken : (new : List Step) (o : Outcome) (b : Bool) → o.to_end ≡ b → Whole (program (i ∷ [])) mid new o
+          → Left (program items) old new (then_program (program others) (record { to_end = b; instructions = total + o.instructions }))
+      taken new o b ends whole = subst (λ (z : Bool). Left (program items) old new (then_program (program others) (record { to_end = z; instructions = total + o.instructions }))) ends
+          (Left-and_then (program items) (program (i ∷ [])) rest old mid new o next whole)
 
-    pub item_ends : (new : List Step) (o : Outcome) → o.to_end ≡ false → i < length items → Whole (program (get_or items i d ∷ [])) mid new o
-        → Whole (program items) old new (record { to_end = false; instructions = total + o.instructions })
-    item_ends new o off lt whole = let value : Outcome = record { to_end = false; instructions = total + o.instructions } in
-        Left-Whole (program items) (Ended value) old new new value (taken new o false off lt whole) (Whole-Ended value value new refl)
+      pub item_ends : (new : List Step) (o : Outcome) → o.to_end ≡ false → Whole (program (i ∷ [])) mid new o
+          → Whole (program items) old new (record { to_end = false; instructions = total + o.instructions })
+      item_ends new o off whole = let value : Outcome = record { to_end = false; instructions = total + o.instructions } in
+          Left-Whole (program items) (Ended value) old new new value (taken new o false off whole) (Whole-Ended value value new refl)
 
-    pub one_item : (new : List Step) (o : Outcome) → o.to_end ≡ true → i < length items → Whole (program (get_or items i d ∷ [])) mid new o → Left (program items) old new (counted (total + o.instructions) (drop (i + 1) items))
-    one_item new o on lt whole = taken new o true on lt whole
+      pub one_item : (new : List Step) (o : Outcome) → o.to_end ≡ true → Whole (program (i ∷ [])) mid new o → Left (program items) old new (counted (total + o.instructions) others)
+      one_item new o on whole = taken new o true on whole
 
-    pub all_taken : length items ≤ i → Whole (program items) old mid (record { to_end = true; instructions = total })
-    all_taken le = let value : Outcome = record { to_end = true; instructions = total } in
-        Left-Whole (program items) (counted total (drop i items)) old mid mid value left
-        (subst (λ t. Whole t mid mid value) (sym (at_drop_all (counted total) items i le))
+    pub all_taken : todo ≡ [] → Whole (program items) old mid (record { to_end = true; instructions = total })
+    all_taken none = let value : Outcome = record { to_end = true; instructions = total } in
+        Left-Whole (program items) (counted total todo) old mid mid value left
+        (subst (λ t. Whole t mid mid value) (sym (ap (counted total) none))
         (Whole-Ended (record { to_end = true; instructions = total + 0 }) value mid (ap (λ k. record { to_end = true; instructions = k }) (add-zero total))))

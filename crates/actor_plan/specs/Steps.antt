@@ -1,5 +1,5 @@
--- What the loops over entries and ticks add. No public contract speaks of it.
-use Rattle.std.specs.Prelude.{◌≡◌, ℕ, suc, ◌+◌, nat_lt, List, [], ◌∷◌, ◌++◌, drop, if◌then◌else◌}
+-- The entries and ticks of a CPU, one by one. No public contract speaks of it.
+use Rattle.std.specs.Prelude.{ℕ, suc, ◌+◌, nat_le, nat_lt, Bool, true, false, List, [], ◌∷◌, ◌++◌, drop, Option, Some, None, if◌then◌else◌}
 use Rattle.bt_ast.specs.declared.attached.Tick.{Tick}
 use Rattle.recordings.specs.declared.recording.Entry.{Entry}
 use Rattle.recordings.specs.declared.recording.Entry.TheVariants as entry
@@ -23,17 +23,18 @@ abbrev pub earlier_count : ℕ → List Entry → ℕ
 earlier_count time [] = 0
 earlier_count time (e ∷ es) = if nat_lt (entry_time e) time then suc (earlier_count time es) else 0
 
--- the earlier ones of the entries from a place on were added, and this is the next place
-pub record PushesEarlier (time from : ℕ) (entries : List Entry) (old new : List AgendaItem) (place : ℕ) : Type 0 where
-  pub items : new ≡ old ++ earlier time from entries
-  pub next : place ≡ from + earlier_count time entries
-
 -- the ticks, each behind the entries before its time, and then the entries that are left
 abbrev pub taken : ℕ → List Entry → ℕ → List Tick → List AgendaItem
 taken first entries place [] = entries_on first entries
 taken first entries place (t ∷ ts) =
     earlier t.time first entries
     ++ item.Tick place ∷ taken (first + earlier_count t.time entries) (drop (earlier_count t.time entries) entries) (place + 1) ts
+
+-- a tick is the next item: no entry is before its time
+abbrev pub is_tick_next : Option Tick → Option Entry → Bool
+is_tick_next None entry = false
+is_tick_next (Some t) None = true
+is_tick_next (Some t) (Some e) = nat_le t.time (entry_time e)
 
 -- where an entry is an event, it has its format
 abbrev pub IsRecorded : List Format → Entry → Type 0

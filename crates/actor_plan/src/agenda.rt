@@ -1,17 +1,16 @@
 // Agendas: the entries and ticks that a CPU takes, in their order.
-ghost use Rattle.std.specs.Prelude.{◌≡◌, ◌<◌, ◌≤◌, ◌^◌, ◌++◌, drop, length, IfOk, OnOk};
+ghost use Rattle.std.specs.Prelude.{◌≡◌, ◌<◌, ◌^◌, ◌∷◌, [], length, slice_get, MatchOption};
+ghost use Rattle.std.specs.Option.{option_map};
 ghost use Rattle.recordings.specs.InFile.{entry_seen};
 ghost use Rattle.recordings.specs.Places.{entry_time};
 ghost use Rattle.recordings.specs.Recordings.{IsValidRecording};
 ghost use Rattle.actor_plan.specs.Agendas.{AreInTurn, item_at, agenda_of};
-ghost use Rattle.actor_plan.specs.Steps.{PushesEarlier, entries_on, taken};
+ghost use Rattle.actor_plan.specs.Steps.{is_tick_next};
 
 use bt_ast::attached::{Attached, Tick};
-use bt_core::items::Items;
-use bt_core::memory::Memory;
 use recordings::entries::{Entries, EntryRef};
 use recordings::recording::Recording;
-use std::alloc::Global;
+use std::marker::Model;
 
 /// An item of a CPU's agenda: a tick by its place among the attached ticks, or an event or a mark of lost ones by its
 /// place among the CPU's entries.
@@ -42,74 +41,78 @@ pub fn time_of(entry: &EntryRef<'_>) -> u64
     }
 }
 
-/// Adds the entries from a place on, up to the first that is not before a time, and gives its place.
-fn push_earlier(
-    items: &mut Items<AgendaItem>,
-    entries: &Entries,
-    from: usize,
-    time: u64,
-) -> Result<usize, Memory>
-    requires from { from ≤ length entries.now }
-    requires few { length entries.now ≤ 2 ^ 32 }
-    ensures { IfOk result (λ place. PushesEarlier time from (drop from entries.now) items.old items.new place) }
+/// Whether the tick that has a place is the next item before an entry: there is such a tick, and no entry, or none before the
+/// tick's time.
+fn is_tick_next(ticks: &[Tick], place: usize, entry: &Option<EntryRef<'_>>) -> bool
+    ensures { result ≡ is_tick_next (slice_get ticks.now place) (option_map entry_seen entry.now) }
 {
-    let mut place = from;
-    while let Some(entry) = entries.get(place) {
-        if time_of(&entry) >= time {
-            return Ok(place);
-        }
-        items.push(item_at(place as u32, &entry))?;
-        place += 1;
+    match ticks.get(place) {
+        None => false,
+        Some(tick) => match entry {
+            None => true,
+            Some(entry) => time_of(entry) >= tick.time,
+        },
     }
-    Ok(place)
 }
 
-/// Adds the entries from a place on.
-fn push_rest(items: &mut Items<AgendaItem>, entries: &Entries, from: usize) -> Result<(), Memory>
-    requires from { from ≤ length entries.now }
-    requires few { length entries.now ≤ 2 ^ 32 }
-    ensures { OnOk result (items.new ≡ items.old ++ entries_on from (drop from entries.now)) }
-{
-    let mut place = from;
-    while let Some(entry) = entries.get(place) {
-        items.push(item_at(place as u32, &entry))?;
-        place += 1;
-    }
-    Ok(())
-}
-
-/// The entries and ticks of one CPU in their order.
-fn items_of(alloc: Global, entries: &Entries, ticks: &[Tick]) -> Result<Items<AgendaItem>, Memory>
-    requires few_entries { length entries.now ≤ 2 ^ 32 }
-    requires few_ticks { length ticks.now < 2 ^ 32 }
-    ensures { IfOk result (λ items. items ≡ taken 0 entries.now 0 ticks.now) }
-{
-    let mut items = Items::new(alloc);
-    let mut next = 0;
-    for (place, tick) in ticks.iter().enumerate() {
-        next = push_earlier(&mut items, entries, next, tick.time)?;
-        items.push(AgendaItem::Tick(place as u32))?;
-    }
-    push_rest(&mut items, entries, next)?;
-    Ok(items)
-}
-
-/// The agenda of a CPU, which its place among the CPUs names: its entries in the order of the file, and all ticks. A tick
-/// stands after the entries with a smaller time and before those with its time or more, and ticks stand in their order.
+/// The items of a CPU's agenda that are still to come: its entries in the order of the file, and all ticks. A tick stands after
+/// the entries with a smaller time and before those with its time or more, and ticks stand in their order. Only the places of
+/// the next entry and of the next tick are kept, so that it takes no memory for an item.
 ///
-/// It takes time linear in the entries and ticks. [`Memory`] is its one error.
-pub fn agenda(
-    alloc: Global,
-    recording: &Recording,
-    attached: &Attached,
-    cpu: u32,
-) -> Result<Items<AgendaItem>, Memory>
-    requires valid { IsValidRecording recording.now }
-    requires few_ticks { length attached.now.ticks < 2 ^ 32 }
-    requires in_turn { AreInTurn attached.now.ticks }
-    requires known { cpu < length recording.now.cpus }
-    ensures { IfOk result (λ items. items ≡ agenda_of recording.now attached.now cpu) }
-{
-    let entries = &recording.cpus.as_slice()[cpu as usize].entries;
-    items_of(alloc, entries, attached.ticks.as_slice())
+/// Contracts see the list of these items.
+#[derive(Drop)]
+pub struct Agenda<'a> {
+    entries: &'a Entries,
+    ticks: &'a [Tick],
+    next_entry: usize,
+    next_tick: usize,
+}
+
+impl<'a> Model for Agenda<'a> {
+    ghost use Rattle.std.specs.Prelude.{◌<◌, ◌≤◌, ◌^◌, List, drop, length};
+    ghost use Rattle.actor_plan.specs.declared.agenda.AgendaItem.{AgendaItem as Item};
+    ghost use Rattle.actor_plan.specs.Steps.{taken};
+
+    ghost Value = { List Item };
+
+    ghost view = { λ s. taken s.next_entry (drop s.next_entry s.entries.now) s.next_tick (drop s.next_tick s.ticks.now) };
+
+    ghost invariant = { λ s. (length s.entries.now ≤ 2 ^ 32) × (length s.ticks.now < 2 ^ 32) };
+}
+
+impl<'a> Agenda<'a> {
+    /// The whole agenda of a CPU, which its place among the CPUs names. It takes no memory.
+    pub fn new(recording: &'a Recording, attached: &'a Attached, cpu: u32) -> Agenda<'a>
+        requires valid { IsValidRecording recording.now }
+        requires few_ticks { length attached.now.ticks < 2 ^ 32 }
+        requires in_turn { AreInTurn attached.now.ticks }
+        requires known { cpu < length recording.now.cpus }
+        ensures { result ≡ agenda_of recording.now attached.now cpu }
+    {
+        let track = &recording.cpus.as_slice()[cpu as usize];
+        Agenda {
+            entries: &track.entries,
+            ticks: attached.ticks.as_slice(),
+            next_entry: 0,
+            next_tick: 0,
+        }
+    }
+
+    /// Takes the next item, or tells that none is left. It takes no memory.
+    pub fn next(&mut self) -> Option<AgendaItem>
+        ensures { MatchOption result ((self.old ≡ []) × (self.new ≡ [])) (λ item. self.old ≡ item ∷ self.new) }
+    {
+        let entry = self.entries.get(self.next_entry);
+        if is_tick_next(self.ticks, self.next_tick, &entry) {
+            let item = AgendaItem::Tick(self.next_tick as u32);
+            self.next_tick += 1;
+            return Some(item);
+        }
+        let Some(entry) = entry else {
+            return None;
+        };
+        let item = item_at(self.next_entry as u32, &entry);
+        self.next_entry += 1;
+        Some(item)
+    }
 }

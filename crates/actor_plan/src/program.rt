@@ -6,7 +6,7 @@ ghost use Rattle.actor_plan.specs.Agendas.{AreInTurn};
 ghost use Rattle.actor_plan.specs.Programs.{actor_program, begin_program, end_program, item_work, items_program};
 ghost use Rattle.actor_plan.specs.Ready.{IsReady};
 
-use crate::agenda::{AgendaItem, agenda};
+use crate::agenda::{Agenda, AgendaItem};
 use crate::bodies::Bodies;
 use crate::clock::goes_on;
 use crate::context::{context_of_begin, context_of_end};
@@ -55,33 +55,29 @@ pub fn take_item<B: Bodies, P: Port>(
     })
 }
 
-/// Takes items of a CPU's agenda, one after the other. Where the script has an exit, the program ends at the first item whose
+/// Takes the items of an agenda, one after the other. Where the script has an exit, the program ends at the first item whose
 /// check finds a stop.
-///
-/// [`Memory`] is the one error. The steps that were then made are the first of the program's.
-pub fn run_items<B: Bodies, P: Port>(
+fn run_items<B: Bodies, P: Port>(
     alloc: Global,
     bodies: &mut B,
     recording: &Recording,
     attached: &Attached,
     track: &CpuTrack,
     exits: bool,
-    items: &[AgendaItem],
+    mut items: Agenda<'_>,
     port: &mut P,
 ) -> Result<Outcome, Memory>
     requires ready { IsReady (B.plan bodies.old) recording.now attached.now (P.fixed port.old).setting }
     requires on_cpu { slice_get recording.now.cpus (B.plan bodies.old).actor ≡ Some track.now }
-    requires few { length items.now ≤ MOST_EVENTS + MOST_TICKS }
-    ensures performed { Performed (items_program exits (item_work (B.plan bodies.old) recording.now attached.now track.now) items.now)
+    requires few { length items ≤ MOST_EVENTS + MOST_TICKS }
+    ensures performed { Performed (items_program exits (item_work (B.plan bodies.old) recording.now attached.now track.now) items.entry)
         (P.steps port.old) (P.steps port.new) result }
     ensures port_kept { P.fixed port.new ≡ P.fixed port.old }
     ensures plan_kept { B.plan bodies.new ≡ B.plan bodies.old }
 {
     let mut instructions = 0;
-    for item in items {
-        let taken = take_item(
-            alloc, bodies, recording, attached, track, exits, *item, port,
-        )?;
+    while let Some(item) = items.next() {
+        let taken = take_item(alloc, bodies, recording, attached, track, exits, item, port)?;
         instructions += taken.instructions;
         if !taken.to_end {
             return Ok(Outcome {
@@ -118,17 +114,10 @@ pub fn run_cpu<B: Bodies, P: Port>(
     ensures port_kept { P.fixed port.new ≡ P.fixed port.old }
     ensures plan_kept { B.plan bodies.new ≡ B.plan bodies.old }
 {
-    let items = agenda(alloc, recording, attached, cpu)?;
+    let items = Agenda::new(recording, attached, cpu);
     let track = &recording.cpus.as_slice()[cpu as usize];
     run_items(
-        alloc,
-        bodies,
-        recording,
-        attached,
-        track,
-        exits,
-        items.as_slice(),
-        port,
+        alloc, bodies, recording, attached, track, exits, items, port,
     )
 }
 

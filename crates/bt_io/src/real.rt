@@ -8,7 +8,9 @@ use crate::names::note;
 use crate::shelf::{Shelf, ShelfError};
 use crate::sink::{Sink, SinkFailed};
 use bt_core::items::Items;
+use bt_core::memory::Memory;
 use std::alloc::Global;
+use std::fs::OpenFile;
 use std::io::{ErrorKind, Print, Read, Stderr, Stdout};
 use std::marker::Model;
 use std::rt::Files;
@@ -84,12 +86,28 @@ impl<R: Files> Shelf for FileShelf<R> {
     }
 }
 
+/// Room behind the bytes that the system tells of a file, so that the read that finds its end has some.
+const SPARE_BYTES: u64 = 512;
+
+// A vector with room for the bytes that the system tells of a file, or for as many as the limit where those are fewer. What it
+// tells is a guess, as a file may change: whatever comes is read.
+fn room_for<F: OpenFile>(alloc: Global, file: &F, limit: u64) -> Result<Vec<u8>, Memory>
+    ensures { IfOk result (λ bytes. bytes.items ≡ []) }
+{
+    let told = match file.metadata() {
+        Ok(metadata) => metadata.len(),
+        Err(_) => 0,
+    };
+    let room = told.min(limit).saturating_add(SPARE_BYTES);
+    Ok(Vec::with_capacity(alloc, usize::try_from(room)?)?)
+}
+
 // The bytes of a file. At most one byte more than the limit is read.
 fn load<R: Files>(rt: &R, alloc: Global, name: &str, limit: u64) -> Result<Vec<u8>, ShelfError>
     ensures fits { IfOk result (λ bytes. length bytes.items ≤ limit) }
 {
     let file = fs::open(rt, name).map_err(shelf_error)?;
-    let mut bytes = Vec::new(alloc);
+    let mut bytes = room_for(alloc, &file, limit)?;
     file.take(limit.saturating_add(1))
         .read_to_end(&mut bytes)
         .map_err(shelf_error)?;

@@ -3,7 +3,7 @@ ghost use Rattle.std.specs.Prelude.{IsTrue};
 ghost use Rattle.recordings.specs.Recordings.{IsValidRecording};
 ghost use Rattle.actor_plan.specs.Agendas.{AreInTurn};
 
-use actor_plan::agenda::{AgendaItem, agenda};
+use actor_plan::agenda::{Agenda, AgendaItem};
 use bt_ast::attached::{Attached, Tick};
 use bt_core::items::Items;
 use bt_core::memory::Memory;
@@ -86,7 +86,12 @@ fn agenda_with(
         begin: Items::new(alloc),
         end: Items::new(alloc),
     };
-    Ok(agenda(alloc, recording, &attached, 0)?)
+    let mut agenda = Agenda::new(recording, &attached, 0);
+    let mut items = Items::new(alloc);
+    while let Some(item) = agenda.next() {
+        items.push(item)?;
+    }
+    Ok(items)
 }
 
 /// Entries, ticks, and the items in which they stand.
