@@ -1,5 +1,5 @@
 // The arguments that a format wants.
-ghost use Rattle.std.specs.Prelude.{◌≡◌, ◌++◌, IfOk, OnOk};
+ghost use Rattle.std.specs.Prelude.{◌≡◌, [], ◌∷◌, ◌++◌, IfOk, OnOk, MatchOption};
 ghost use Rattle.fmt_text.specs.Arguments.{argument_shapes, letter_shape, piece_shapes};
 
 use crate::piece::Piece;
@@ -19,18 +19,30 @@ fn letter_shape(letter: u8) -> Shape
     }
 }
 
+/// The type of the argument that a piece of a format wants: a string for `%s`, and a whole number for
+/// every other conversion. `None` for bytes that stand for themselves, which want no argument. Takes no
+/// memory.
+pub fn piece_shape(piece: &Piece) -> Option<Shape>
+    ensures { MatchOption result (piece_shapes piece.now ≡ []) (λ shape. piece_shapes piece.now ≡ shape ∷ []) }
+{
+    match piece {
+        Piece::Literal(_) => None,
+        Piece::Conversion { letter, .. } => Some(letter_shape(*letter)),
+    }
+}
+
 /// Adds the type of the argument that a piece wants, if it wants one.
 fn add_shape(shapes: &mut Items<Shape>, piece: &Piece) -> Result<(), Memory>
     ensures { OnOk result (shapes.new ≡ shapes.old ++ piece_shapes piece.now) }
 {
-    match piece {
-        Piece::Literal(_) => Ok(()),
-        Piece::Conversion { letter, .. } => shapes.push(letter_shape(*letter)),
+    match piece_shape(piece) {
+        None => Ok(()),
+        Some(shape) => shapes.push(shape),
     }
 }
 
 /// The types of the arguments that a format with these pieces wants, one for each conversion in their
-/// order: a string for `%s`, and a whole number for every other conversion.
+/// order, as of [`piece_shape`].
 ///
 /// # Errors
 ///

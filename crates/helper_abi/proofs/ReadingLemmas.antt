@@ -52,12 +52,6 @@ too_many s address hs h =
     let many = many_bytes hs in
     some_at s address (bytes_of_shapes hs) (omega arith) ∙ bytes_none s address (bytes_of_shapes hs) (omega arith) (omega arith) (omega arith)
 
-pub not_empty : (hs : List Shape) → 1 ≤ length hs → 1 ≤ bytes_of_shapes hs
-not_empty hs h = omega (arith, many_bytes hs)
-
-pub some_bytes_at : (s : Spaces) (address : ℕ) (hs : List Shape) → 1 ≤ length hs → bytes_at s address (bytes_of_shapes hs) ≡ bytes_in s address (bytes_of_shapes hs)
-some_bytes_at s address hs h = some_at s address (bytes_of_shapes hs) (not_empty hs h)
-
 pub HasShape-length : (hs : List Shape) (vs : List Value) → HasShape hs vs → length vs ≡ length hs
 HasShape-length [] [] h = refl
 HasShape-length [] (v ∷ vs) h = absurd h

@@ -9,10 +9,9 @@ ghost use Rattle.typed_tree.specs.Scope.{is_agg, is_summed_kind};
 ghost use Rattle.helper_abi.specs.Helpers.{numbered, table_map, value_map, summed_map, are_shown, get, set, delete, aggregate, read_agg, print, sweep_map, printf, exit, cut, read_str};
 ghost use Rattle.helper_abi.specs.Served.{ServesMaps};
 
+use crate::arguments::arguments_at;
 use crate::printing::{print_map, sweep_all};
-use crate::reading::{
-    TEXT_BYTES, key_at, payload_text, put, shape_bytes, shape_of_kind, value_at, values_at,
-};
+use crate::reading::{TEXT_BYTES, key_at, payload_text, put, shape_bytes, shape_of_kind, value_at};
 use crate::steps::{get_into, sum_into, tell};
 use bpf_interp::ports::PortFault;
 use bpf_interp::regions::Regions;
@@ -22,7 +21,6 @@ use bt_core::map::{MapDecl, MapId, MapKind};
 use bt_core::port::Port;
 use bt_core::step::{ObjectId, Op};
 use bt_core::value::Value;
-use fmt_text::arguments::argument_shapes;
 use fmt_text::piece::Piece;
 use map_ops::access::part;
 use map_ops::sweep::Sweep;
@@ -313,11 +311,7 @@ pub fn printf<P: Port>(
     let Some(pieces) = numbered(formats, format) else {
         return Err(PortFault::Helper);
     };
-    let shapes = match argument_shapes(alloc, pieces.as_slice()) {
-        Ok(shapes) => shapes,
-        Err(want) => return Err(PortFault::Memory(want)),
-    };
-    let values = match values_at(alloc, memory, shapes.as_slice(), address) {
+    let values = match arguments_at(alloc, memory, pieces.as_slice(), address) {
         Ok(values) => values,
         Err(fault) => return Err(fault),
     };

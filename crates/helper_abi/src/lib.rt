@@ -1,6 +1,7 @@
 //! The helpers that BPF code calls: each is a list of steps through a port.
 #![tactic(auto)]
 
+mod arguments;
 pub mod helper;
 pub mod helper_port;
 mod helpers;

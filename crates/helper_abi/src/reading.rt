@@ -1,6 +1,6 @@
 // The values that helpers read, and the bytes that they write.
-ghost use Rattle.std.specs.Prelude.{◌≡◌, ◌∷◌, [], ◌<◌, ◌≤◌, ◌*◌, ◌^◌, length, None, Some, Err, IfOk, IfSome, IsTrue, MatchOption};
-ghost use Rattle.bt_core.specs.declared.limits.TheConstants.{KEY_PARTS as MOST_PARTS};
+ghost use Rattle.std.specs.Prelude.{◌≡◌, ◌∷◌, [], ◌<◌, ◌≤◌, ◌*◌, ◌^◌, length, max, None, Some, Err, IfOk, IfSome, IsTrue, MatchOption};
+ghost use Rattle.bt_core.specs.declared.limits.TheConstants.{FRAME_BYTES, KEY_PARTS as MOST_PARTS};
 ghost use Rattle.bt_core.specs.declared.value.Value.TheVariants as variants;
 ghost use Rattle.bt_core.specs.Kinds.{HasShape, IsOfShape};
 ghost use Rattle.bt_core.specs.KeyBytes.{value_bytes};
@@ -60,7 +60,7 @@ pub fn shape_of_kind(kind: MapKind) -> Shape
 }
 
 // The value in its bytes.
-fn value_in(shape: Shape, bytes: &[u8]) -> Value
+pub(crate) fn value_in(shape: Shape, bytes: &[u8]) -> Value
     requires { length bytes.now ≡ shape_bytes shape }
     ensures value { result ≡ value_in shape bytes.now }
     ensures shaped { IsOfShape shape result }
@@ -90,20 +90,36 @@ fn values_in(alloc: Global, shapes: &[Shape], bytes: &[u8]) -> Result<Items<Valu
     Ok(values)
 }
 
+// Bytes of the longest region.
+pub(crate) fn longest_region(memory: &Regions) -> u64
+    ensures value { result ≡ max (length memory.now.payload) FRAME_BYTES }
+    ensures few { result < 2 ^ 32 }
+{
+    (memory.payload().len() as u64).max(FRAME_BYTES)
+}
+
+// So many bytes at an address, where they lie wholly inside one region; none are anywhere.
+pub(crate) fn bytes_at<'a>(memory: &'a Regions, address: u64, count: u64) -> Option<&'a [u8]>
+    ensures exact { MatchOption result (bytes_at memory.now address count ≡ None) (λ bytes. bytes_at memory.now address count ≡ Some bytes.now) }
+    ensures long { IfSome result (λ bytes. length bytes.now ≡ count) }
+{
+    if count == 0 {
+        return Some(&[]);
+    }
+    memory.bytes(address, count)
+}
+
 // The bytes of values at an address. Each value has a byte at least, so that no region has more values
 // than bytes.
-fn bytes_at<'a>(memory: &'a Regions, shapes: &[Shape], address: u64) -> Option<&'a [u8]>
+fn value_bytes_at<'a>(memory: &'a Regions, shapes: &[Shape], address: u64) -> Option<&'a [u8]>
     ensures exact { let n = bytes_of_shapes shapes.now in
         MatchOption result (bytes_at memory.now address n ≡ None) (λ bytes. bytes_at memory.now address n ≡ Some bytes.now) }
     ensures long { IfSome result (λ bytes. length bytes.now ≡ bytes_of_shapes shapes.now) }
 {
-    if shapes.is_empty() {
-        return Some(&[]);
-    }
-    if shapes.len() > memory.payload().len().max(FRAME_BYTES as usize) {
+    if shapes.len() as u64 > longest_region(memory) {
         return None;
     }
-    memory.bytes(address, bytes_of_shapes(shapes))
+    bytes_at(memory, address, bytes_of_shapes(shapes))
 }
 
 /// The values at an address.
@@ -121,7 +137,7 @@ pub fn values_at(
     ensures outside { values_at memory.now shapes.now address ≡ None → result ≡ Err Address }
     ensures shaped { IfOk result (λ values. HasShape shapes.now values) }
 {
-    let Some(bytes) = bytes_at(memory, shapes, address) else {
+    let Some(bytes) = value_bytes_at(memory, shapes, address) else {
         return Err(PortFault::Address);
     };
     match values_in(alloc, shapes, bytes) {
