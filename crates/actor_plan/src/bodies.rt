@@ -3,9 +3,9 @@ ghost use Rattle.std.specs.Prelude.{◌≡◌};
 ghost use Rattle.bt_core.specs.Interaction.{Performed};
 ghost use Rattle.actor_plan.specs.Plans.{Plan, ServesPlan, CanRun};
 
-use bt_core::context::Context;
 use bt_core::memory::Memory;
 use bt_core::port::Port;
+use event_record::contexts::ContextBytes;
 use std::alloc::Global;
 
 /// Runs the bodies of a script for one actor.
@@ -23,7 +23,7 @@ pub trait Bodies {
         &mut self,
         alloc: Global,
         body: u32,
-        context: &Context,
+        context: &ContextBytes,
         payload: &[u8],
         port: &mut P,
     ) -> Result<u64, Memory>

@@ -4,18 +4,17 @@ ghost use Rattle.recordings.specs.InFile.{event_seen};
 ghost use Rattle.actor_plan.specs.Contexts.{event_context, moment_context, tick_context, begin_context, end_context};
 
 use bt_ast::attached::Tick;
-use bt_core::context::Context;
-use bt_core::text::Str64;
+use event_record::contexts::{ContextBytes, ContextParts};
 use recordings::entries::EventRef;
 use recordings::recording::{CpuTrack, Recording};
 
 /// What a body sees of an event of a CPU: the event's values, and the CPU's number. The name of the thread ends before its
 /// first zero byte.
-pub fn context_of_event(recording: &Recording, track: &CpuTrack, event: &EventRef<'_>) -> Context
+pub fn context_of_event(recording: &Recording, track: &CpuTrack, event: &EventRef<'_>) -> ContextBytes
     requires { length event.now.payload.now < 2 ^ 32 }
     ensures { result ≡ event_context recording.now track.now (event_seen event.now) }
 {
-    Context {
+    ContextBytes::of(&ContextParts {
         time: event.time,
         start: recording.start,
         pid: event.pid,
@@ -23,16 +22,16 @@ pub fn context_of_event(recording: &Recording, track: &CpuTrack, event: &EventRe
         uid: event.uid,
         gid: event.gid,
         cpu: track.number,
-        comm: Str64::of(&event.comm),
+        comm: &event.comm,
         payload_len: event.payload.len() as u32,
-    }
+    })
 }
 
 /// What a body sees at a time on a CPU of this number, where there is no event: 0 and the empty string beside them.
-fn context_of_moment(recording: &Recording, number: u32, time: u64) -> Context
+fn context_of_moment(recording: &Recording, number: u32, time: u64) -> ContextBytes
     ensures { result ≡ moment_context recording.now number time }
 {
-    Context {
+    ContextBytes::of(&ContextParts {
         time,
         start: recording.start,
         pid: 0,
@@ -40,28 +39,28 @@ fn context_of_moment(recording: &Recording, number: u32, time: u64) -> Context
         uid: 0,
         gid: 0,
         cpu: number,
-        comm: Str64::of(&[]),
+        comm: &[],
         payload_len: 0,
-    }
+    })
 }
 
 /// What a tick's body sees on the CPU that runs it: the tick's time and the CPU's number, and 0 and the empty string for the
 /// rest.
-pub fn context_of_tick(recording: &Recording, track: &CpuTrack, tick: &Tick) -> Context
+pub fn context_of_tick(recording: &Recording, track: &CpuTrack, tick: &Tick) -> ContextBytes
     ensures { result ≡ tick_context recording.now track.now tick.now }
 {
     context_of_moment(recording, track.number, tick.time)
 }
 
 /// What `BEGIN` sees: the recording's start as the time, CPU 0, and 0 and the empty string for the rest.
-pub fn context_of_begin(recording: &Recording) -> Context
+pub fn context_of_begin(recording: &Recording) -> ContextBytes
     ensures { result ≡ begin_context recording.now }
 {
     context_of_moment(recording, 0, recording.start)
 }
 
 /// What `END` sees: the recording's end as the time, CPU 0, and 0 and the empty string for the rest.
-pub fn context_of_end(recording: &Recording) -> Context
+pub fn context_of_end(recording: &Recording) -> ContextBytes
     ensures { result ≡ end_context recording.now }
 {
     context_of_moment(recording, 0, recording.end)

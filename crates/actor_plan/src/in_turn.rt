@@ -7,9 +7,9 @@ ghost use Rattle.actor_plan.specs.Programs.{in_turn};
 
 use crate::bodies::Bodies;
 use crate::limits::RUN_INSTRUCTIONS;
-use bt_core::context::Context;
 use bt_core::memory::Memory;
 use bt_core::port::Port;
+use event_record::contexts::ContextBytes;
 use std::alloc::Global;
 
 /// Runs bodies one after the other at one context and payload, and gives the sum of their instructions.
@@ -17,7 +17,7 @@ pub(crate) fn run_in_turn<B: Bodies, P: Port>(
     alloc: Global,
     bodies: &mut B,
     which: &[u32],
-    context: &Context,
+    context: &ContextBytes,
     payload: &[u8],
     port: &mut P,
 ) -> Result<u64, Memory>

@@ -7,9 +7,9 @@ ghost use Rattle.code_bodies.specs.Coding.{CanRunCode};
 use crate::run_body::run_body;
 use actor_plan::bodies::Bodies;
 use bpf_interp::code::Code;
-use bt_core::context::Context;
 use bt_core::memory::Memory;
 use bt_core::port::Port;
+use event_record::contexts::ContextBytes;
 use std::alloc::Global;
 use typed_tree::script::Typed;
 
@@ -25,13 +25,6 @@ pub struct CodeBodies<'a> {
     ghost can_run: { AllByRecursion CanRunCode codes.now } by { codes_prop codes.now },
 }
 
-/// The length of the payload that a context names, of 32 bits.
-fn named_length(context: &Context) -> u32
-    ensures { result ≡ context.now.payload_len }
-{
-    context.payload_len
-}
-
 impl Bodies for CodeBodies<'_> {
     ghost use Rattle.code_bodies.specs.Running.{plan_of};
 
@@ -41,14 +34,14 @@ impl Bodies for CodeBodies<'_> {
         &mut self,
         alloc: Global,
         body: u32,
-        context: &Context,
+        context: &ContextBytes,
         payload: &[u8],
         port: &mut P,
     ) -> Result<u64, Memory> {
         match self.codes.get(body as usize) {
             None => Ok(0),
             Some(code) => {
-                let _length = named_length(context);
+                let _length = context.payload_len();
                 run_body(
                     alloc,
                     self.script,

@@ -13,11 +13,10 @@ use bpf_insn::address::CONTEXT_BYTES;
 use bpf_insn::trap::Trap;
 use bpf_interp::code::Code;
 use bpf_interp::machine::Ended;
-use bt_core::context::Context;
 use bt_core::limits::FUEL_OF_A_SLOT;
 use bt_core::memory::Memory;
 use bt_core::port::Port;
-use event_record::contexts::context_bytes;
+use event_record::contexts::ContextBytes;
 use helper_abi::running::run_code;
 use std::alloc::Global;
 use typed_tree::script::Typed;
@@ -67,7 +66,7 @@ pub(crate) fn run_body<P: Port>(
     alloc: Global,
     script: &Typed,
     code: &Code,
-    context: &Context,
+    context: &ContextBytes,
     payload: &[u8],
     actor: u32,
     actors: u32,
@@ -82,10 +81,10 @@ pub(crate) fn run_body<P: Port>(
     ensures performed { Performed (coded script.now actor actors (Some code.now) context.now payload.now) (P.steps port.old) (P.steps port.new) result }
     ensures kept { P.fixed port.new ≡ P.fixed port.old }
 {
-    let bytes = context_bytes(context);
+    let bytes = context.bytes();
     let fuel = FUEL_OF_A_SLOT * code.len() as u64;
     let run = run_through(
-        alloc, script, code, &bytes, payload, actor, actors, port, fuel,
+        alloc, script, code, bytes, payload, actor, actors, port, fuel,
     );
     count_in(run)
 }

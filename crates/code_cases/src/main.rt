@@ -8,17 +8,15 @@ mod runs;
 mod steps;
 
 use anyhow::Result;
-use bt_core::context::Context;
-use bt_core::text::Str64;
 use codes::{tell_code, tell_forms};
-use event_record::contexts::context_bytes;
+use event_record::contexts::{ContextBytes, ContextParts};
 use helpers::tell_helper;
 use runs::tell_run;
 use std::fs;
 
 /// Tells the bytes of a context.
 fn tell_context<R: Print + AllocGlobal>(rt: &R) -> Result<()> {
-    let bytes = context_bytes(&Context {
+    let context = ContextBytes::of(&ContextParts {
         time: 0x0102_0304_0506_0708,
         start: 0x0102_0304_0506_0709,
         pid: 1,
@@ -26,10 +24,10 @@ fn tell_context<R: Print + AllocGlobal>(rt: &R) -> Result<()> {
         uid: 3,
         gid: 4,
         cpu: 5,
-        comm: Str64::of(b"bash"),
+        comm: b"bash",
         payload_len: 6,
     });
-    let digits = hex::encode(rt.alloc(), bytes)?;
+    let digits = hex::encode(rt.alloc(), *context.bytes())?;
     println!(rt; "{digits}")?;
     Ok(())
 }

@@ -8,12 +8,28 @@ use bpf_interp::code::Code;
 use bt_core::items::Items;
 use bt_core::step::{Reply, Step};
 use bt_lower::lower::lower;
-use event_record::contexts::context_bytes;
+use event_record::contexts::{ContextBytes, ContextParts};
 use helper_abi::running::run_code;
 use ir_code::probe::IrProbe;
 use std::alloc::Global;
 use std::test::Fail;
 use typed_tree::script::Typed;
+
+/// The context of a moment, whose payload has so many bytes.
+fn bytes_of(moment: Moment, payload_len: u32) -> ContextBytes {
+    let seen = context_of(moment, payload_len);
+    ContextBytes::of(&ContextParts {
+        time: seen.time,
+        start: seen.start,
+        pid: seen.pid,
+        tid: seen.tid,
+        uid: seen.uid,
+        gid: seen.gid,
+        cpu: seen.cpu,
+        comm: seen.comm.bytes(),
+        payload_len: seen.payload_len,
+    })
+}
 
 fn run_code_of(
     alloc: Global,
@@ -30,12 +46,20 @@ fn run_code_of(
     if payload.len() > 4096 || actor >= actors || code.is_empty() || code.len() > 4096 {
         return Err(Fail::from("no moment of this program"));
     }
-    let context = context_bytes(&context_of(moment, payload.len() as u32));
+    let context = bytes_of(moment, payload.len() as u32);
     let mut port = port_of(alloc, &typed.maps, moment, replies)?;
     let code = Code::of(alloc, Items::of(code))?;
     let fuel = program.fuel;
     let ended = run_code(
-        alloc, &code, &context, payload, typed, actor, actors, &mut port, fuel,
+        alloc,
+        &code,
+        context.bytes(),
+        payload,
+        typed,
+        actor,
+        actors,
+        &mut port,
+        fuel,
     )?;
     Ok((port.steps, ended.instructions))
 }

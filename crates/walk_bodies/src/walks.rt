@@ -2,10 +2,10 @@
 ghost use Rattle.std.specs.Prelude.{◌<◌};
 
 use actor_plan::bodies::Bodies;
-use bt_core::context::Context;
 use bt_core::memory::Memory;
 use bt_core::port::Port;
 use bt_walk::body::walk_body;
+use event_record::contexts::ContextBytes;
 use std::alloc::Global;
 use typed_tree::script::Typed;
 
@@ -27,14 +27,15 @@ impl Bodies for Walks<'_> {
         &mut self,
         alloc: Global,
         body: u32,
-        context: &Context,
+        context: &ContextBytes,
         payload: &[u8],
         port: &mut P,
     ) -> Result<u64, Memory> {
         match self.script.bodies.get(body as usize) {
             None => Ok(0),
             Some(body) => {
-                walk_body(alloc, body, context, payload, self.actor, self.actors, port)?;
+                let seen = context.context();
+                walk_body(alloc, body, &seen, payload, self.actor, self.actors, port)?;
                 Ok(0)
             }
         }

@@ -1,8 +1,8 @@
 // Bodies that run out of memory.
 use actor_plan::bodies::Bodies;
-use bt_core::context::Context;
 use bt_core::memory::Memory;
 use bt_core::port::Port;
+use event_record::contexts::ContextBytes;
 use std::alloc::{AllocError, Global};
 
 /// Bodies of which one run, counted from 1, runs out of memory before it makes a step. With 0 none does.
@@ -21,7 +21,7 @@ impl<B: Bodies> Bodies for Failing<B> {
         &mut self,
         alloc: Global,
         body: u32,
-        context: &Context,
+        context: &ContextBytes,
         payload: &[u8],
         port: &mut P,
     ) -> Result<u64, Memory> {

@@ -17,6 +17,6 @@ returns-clause-performed g c =
     subst (λ r. Performed (and_then run (λ end. Ended (count_of end))) old new r) (sym c.count_in.ensures)
     (counted run old new c.run_through-run.result
     (subst (λ b. RunPerformed (script_run (desk_of c.args.script.now c.args.actor c.args.actors) c.args.code.now b c.args.payload.now (fuel_of c.args.code.now)) old new c.run_through-run.result)
-    c.context_bytes-bytes.ensures
-    (subst (λ n. RunPerformed (script_run (desk_of c.args.script.now c.args.actor c.args.actors) c.args.code.now c.context_bytes-bytes.result c.args.payload.now (FUEL_OF_A_SLOT * n)) old new c.run_through-run.result)
+    c.bytes-bytes.ensures
+    (subst (λ n. RunPerformed (script_run (desk_of c.args.script.now c.args.actor c.args.actors) c.args.code.now c.bytes-bytes.result.now c.args.payload.now (FUEL_OF_A_SLOT * n)) old new c.run_through-run.result)
     c.len.ensures c.run_through-run.ensures.performed)))
