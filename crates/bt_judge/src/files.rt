@@ -9,12 +9,14 @@ ghost use Rattle.bt_refusal.specs.Orders.{file_of, limit_of, on_account, on_scri
 ghost use Rattle.bt_judge.specs.Reads.{shelf_use};
 
 use crate::judge::judge;
+use crate::reader::{ManyThreads, OneThread, Reader};
 use bt_core::limits::{RECORDING_BYTES, SCRIPT_BYTES};
 use bt_io::shelf::Shelf;
 use bt_refusal::limits::ACCOUNT_BYTES;
 use bt_refusal::refusal::{Operand, Refusal, read_refusal};
 use run_base::job::Job;
 use std::alloc::Global;
+use std::thread::Threads;
 
 /// How many bytes a file may have.
 fn limit_of(operand: Operand) -> u64
@@ -49,13 +51,15 @@ fn read_file<S: Shelf>(
     }
 }
 
-/// Reads the script and the recording of these names, and answers what they ask for.
-pub fn read_job<S: Shelf>(
+/// Reads the script and the recording of these names, the latter by a reader, and answers what they ask for.
+fn read_job_by<S: Shelf, W: Reader>(
     alloc: Global,
+    reader: &W,
     script: &str,
     recording: &str,
     shelf: &mut S,
 ) -> Result<Job, Refusal>
+    requires { W.can_read reader.now }
     ensures can_run { IfOk result (λ job. IsJob job.typed job.attached job.recording) }
     ensures performs { ComesOfFiles (on_script script.now recording.now) (IsJobFor (on_script script.now recording.now))
         (shelf_use S.held S.faults S.asked shelf.old shelf.new) result }
@@ -69,7 +73,39 @@ pub fn read_job<S: Shelf>(
         Ok(bytes) => bytes,
         Err(refusal) => return Err(refusal),
     };
-    judge(alloc, text.as_slice(), bytes)
+    judge(alloc, reader, text.as_slice(), bytes)
+}
+
+/// Reads the script and the recording of these names, and answers what they ask for.
+pub fn read_job<S: Shelf>(
+    alloc: Global,
+    script: &str,
+    recording: &str,
+    shelf: &mut S,
+) -> Result<Job, Refusal>
+    ensures can_run { IfOk result (λ job. IsJob job.typed job.attached job.recording) }
+    ensures performs { ComesOfFiles (on_script script.now recording.now) (IsJobFor (on_script script.now recording.now))
+        (shelf_use S.held S.faults S.asked shelf.old shelf.new) result }
+    ensures fault_named { FailsNamed (on_script script.now recording.now) (refusal_in result) (S.failed shelf.old) (S.failed shelf.new) }
+{
+    read_job_by(alloc, &OneThread, script, recording, shelf)
+}
+
+/// The same, where the entries of each CPU are read on a thread of its own, if threads can be started and the recording is large.
+pub fn read_job_on_threads<S: Shelf, R: Threads + Sync>(
+    rt: &R,
+    alloc: Global,
+    script: &str,
+    recording: &str,
+    shelf: &mut S,
+) -> Result<Job, Refusal>
+    ensures can_run { IfOk result (λ job. IsJob job.typed job.attached job.recording) }
+    ensures performs { ComesOfFiles (on_script script.now recording.now) (IsJobFor (on_script script.now recording.now))
+        (shelf_use S.held S.faults S.asked shelf.old shelf.new) result }
+    ensures fault_named { FailsNamed (on_script script.now recording.now) (refusal_in result) (S.failed shelf.old) (S.failed shelf.new) }
+{
+    let reader = ManyThreads { rt };
+    read_job_by(alloc, &reader, script, recording, shelf)
 }
 
 /// What a script and a recording ask for, and the bytes of an account.
@@ -111,7 +147,7 @@ pub fn read_account_job<S: Shelf>(
         Ok(account) => account,
         Err(refusal) => return Err(refusal),
     };
-    match judge(alloc, text.as_slice(), bytes) {
+    match judge(alloc, &OneThread, text.as_slice(), bytes) {
         Ok(job) => Ok(AccountJob { job, account }),
         Err(refusal) => Err(refusal),
     }

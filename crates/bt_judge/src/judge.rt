@@ -8,12 +8,12 @@ ghost use Rattle.bt_judge.specs.Doing.{IsExact, IsFaultRefusal, IsScriptRefusal,
 ghost use Rattle.bt_judge.specs.Jobs.{AsksFor, IsJobOf};
 
 use crate::laws::scripts_have_one_size;
+use crate::reader::Reader;
 use crate::script::{attach_refusal, tree_of, type_refusal};
 use crate::sizes::programs_for;
 use bt_attach::attach::attach;
 use bt_refusal::refusal::{Refusal, recording_refusal};
 use bt_types::script::check;
-use rec_format::reading::read_recording;
 use recordings::recording::Recording;
 use run_base::job::Job;
 use std::alloc::Global;
@@ -53,12 +53,18 @@ pub fn script_job(alloc: Global, script: &[u8], recording: Recording) -> Result<
 }
 
 /// What a script and a recording ask for, of which nothing is refused. The recording is refused before the script is.
-fn accept(alloc: Global, script: &[u8], recording: Vec<u8>) -> Result<Job, Refusal>
-    requires { length script.now ≤ SCRIPT_BYTES }
+fn accept<W: Reader>(
+    alloc: Global,
+    reader: &W,
+    script: &[u8],
+    recording: Vec<u8>,
+) -> Result<Job, Refusal>
+    requires can { W.can_read reader.now }
+    requires short { length script.now ≤ SCRIPT_BYTES }
     ensures job { IfOk result (IsJobOf script.now recording.items) }
     ensures refused { IfErr result (IsFaultRefusal script.now recording.items) }
 {
-    match read_recording(alloc, recording) {
+    match reader.read(alloc, recording) {
         Ok(recording) => script_job(alloc, script, recording),
         Err(error) => Err(recording_refusal(error)),
     }
@@ -70,8 +76,14 @@ fn are_bytes(bytes: &[u8])
 {}
 
 /// The same. Of what is due to them there is only one thing, so that comes unless memory runs out; and what they ask for can be run.
-pub(crate) fn judge(alloc: Global, script: &[u8], recording: Vec<u8>) -> Result<Job, Refusal>
-    requires { length script.now ≤ SCRIPT_BYTES }
+pub(crate) fn judge<W: Reader>(
+    alloc: Global,
+    reader: &W,
+    script: &[u8],
+    recording: Vec<u8>,
+) -> Result<Job, Refusal>
+    requires can { W.can_read reader.now }
+    requires short { length script.now ≤ SCRIPT_BYTES }
     ensures job { IfOk result (IsJobOf script.now recording.items) }
     ensures can_run { IfOk result (λ job. IsJob job.typed job.attached job.recording) }
     ensures refused { IfErr result (IsFaultRefusal script.now recording.items) }
@@ -84,5 +96,5 @@ pub(crate) fn judge(alloc: Global, script: &[u8], recording: Vec<u8>) -> Result<
     bt_grammar::laws::one_answer();
     scripts_have_one_size();
     bt_job::laws::accepted_scripts_are_jobs();
-    accept(alloc, script, recording)
+    accept(alloc, reader, script, recording)
 }

@@ -6,6 +6,7 @@ pub mod files;
 pub mod judge;
 pub mod laws;
 pub mod listing;
+mod reader;
 mod script;
 mod sizes;
 pub mod vetting;

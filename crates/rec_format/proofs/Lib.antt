@@ -1,3 +1,4 @@
+pub mod AheadLaws
 pub mod EntryLaws
 pub mod EventLaws
 pub mod HeadLaws

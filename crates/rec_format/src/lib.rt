@@ -1,13 +1,16 @@
 //! The reader and the writer of recordings: a header, event formats, and the entries of each CPU.
 #![tactic(auto)]
 
+mod ahead;
 mod check;
+mod entries;
 mod formats;
 pub mod laws;
 pub mod made;
 mod number;
 mod part;
 pub mod reading;
+mod sections;
 mod table;
 mod tracks;
 pub mod writing;

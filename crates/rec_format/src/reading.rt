@@ -8,13 +8,16 @@ ghost use Rattle.rec_format.specs.Faults.{IsRecordingFault};
 ghost use Rattle.rec_format.specs.Answers.{Answers, IsSpelled};
 ghost use Rattle.recordings.specs.Places.{AreBytes};
 
+use crate::ahead::{Ahead, InTurn, OnThreads};
 use crate::check::{has_marks, version_of};
+use crate::entries::Setting;
 use crate::formats::{read_formats, read_header};
-use crate::tracks::{Setting, read_tracks};
+use crate::tracks::read_tracks;
 use recordings::error::RecordingError;
 use recordings::recording::Recording;
 use std::alloc::Global;
 use std::sync::Arc;
+use std::thread::Threads;
 
 /// The recording that the bytes spell.
 ///
@@ -38,16 +41,46 @@ pub fn read_recording(alloc: Global, bytes: Vec<u8>) -> Result<Recording, Record
     ensures refused { (e : RecordingError) → IsRecordingFault bytes.items e → (result ≡ Err e) ⊎ (result ≡ Err RecordingError.Memory) }
 {
     let file = Arc::new(alloc, bytes)?;
-    read(alloc, &file, (*file).as_slice())
+    read(alloc, &InTurn, &file, (*file).as_slice())
+}
+
+/// The same, where the entries of each CPU are read on a thread of its own, if threads can be started and there are many bytes.
+///
+/// The bytes behind the formats are gone over once more before, by their lengths alone.
+///
+/// # Errors
+///
+/// As of [`read_recording`].
+pub fn read_recording_on_threads<R: Threads + Sync>(
+    rt: &R,
+    alloc: Global,
+    bytes: Vec<u8>,
+) -> Result<Recording, RecordingError>
+    // What is read is valid, and the bytes are its spelling.
+    ensures valid { IfOk result IsValidRecording }
+    ensures spelled { IfOk result (λ recording. bytes.items ≡ recording_bytes recording) }
+    // A valid recording that the bytes spell is read, unless memory runs out.
+    ensures only { (recording : Recording) → IsValidRecording recording → bytes.items ≡ recording_bytes recording
+        → (result ≡ Ok recording) ⊎ (result ≡ Err RecordingError.Memory) }
+    // Any other error is the first fault of the bytes.
+    ensures fault { IfErr result (λ e. e ≢ RecordingError.Memory → IsRecordingFault bytes.items e) }
+    // The first fault of the bytes is answered, unless memory runs out.
+    ensures refused { (e : RecordingError) → IsRecordingFault bytes.items e → (result ≡ Err e) ⊎ (result ≡ Err RecordingError.Memory) }
+{
+    let file = Arc::new(alloc, bytes)?;
+    let ahead = OnThreads { rt };
+    read(alloc, &ahead, &file, (*file).as_slice())
 }
 
 /// The recording that the bytes of a file spell, or their first fault.
-fn read(
+fn read<A: Ahead>(
     alloc: Global,
+    ahead: &A,
     file: &Arc<Vec<u8>, Global>,
     bytes: &[u8],
 ) -> Result<Recording, RecordingError>
-    requires { bytes.now ≡ (arc_value file.now).items }
+    requires can { A.can_read ahead.now }
+    requires file { bytes.now ≡ (arc_value file.now).items }
     ensures answer { Answers result (IsSpelled bytes.now) (IsRecordingFault bytes.now) }
     ensures held { AreBytes bytes.now }
 {
@@ -62,7 +95,8 @@ fn read(
         end: header.end,
         formats: &table,
     };
-    let (cpus, rest) = read_tracks(alloc, file, &setting, header.cpus, rest)?;
+    let early = ahead.read_ahead(alloc, &setting, header.cpus, rest)?;
+    let (cpus, rest) = read_tracks(alloc, file, &setting, early, header.cpus, rest)?;
     if !rest.is_empty() {
         let offset = bytes.len() - rest.len();
         return Err(RecordingError::TrailingBytes(offset as u64));

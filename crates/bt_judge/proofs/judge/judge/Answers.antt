@@ -4,7 +4,7 @@ use Rattle.bt_judge.proofs.Due.{AreLaws, is_exact, jobs_can_run}
 use Rattle.bt_judge.proofs.judge.judge.Goals as goal
 
 pub returns-clause-exact : goal.returns-clause-exact
-returns-clause-exact c =
+returns-clause-exact g c =
     let held : AreBytes c.args.recording.items = subst AreBytes c.as_slice.ensures.value c.are_bytes.ensures in
     let laws : AreLaws c.args.script.now c.args.recording.items = record {
       recording = c.one_recording.ensures;
@@ -23,5 +23,5 @@ returns-clause-exact c =
     is_exact c.args.script.now c.args.recording.items c.accept.result laws c.accept.ensures.job c.accept.ensures.refused
 
 pub returns-clause-can_run : goal.returns-clause-can_run
-returns-clause-can_run c =
+returns-clause-can_run g c =
     jobs_can_run c.args.script.now c.args.recording.items c.accept.result c.accepted_scripts_are_jobs.ensures c.accept.ensures.job

@@ -2,7 +2,7 @@ use Rattle.std.proofs.Common.{◌≡◌}
 use Rattle.recordings.specs.Entries.{time_after, HasEntries}
 use Rattle.recordings.specs.EntryParts.{entries}
 use Rattle.recordings.specs.InFile.{entries_in}
-use Rattle.rec_format.proofs.tracks.read_entries.Given as goal
+use Rattle.rec_format.proofs.entries.read_entries.Given as goal
 
 abbrev pub invariant-loop-place : goal.invariant-loop-place
 invariant-loop-place l = record {

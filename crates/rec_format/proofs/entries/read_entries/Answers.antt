@@ -9,7 +9,7 @@ use Rattle.recordings.proofs.Fields.{IsBytes}
 use Rattle.rec_format.proofs.EntryLaws.{entry_next, entry_cut, entry_refused, first_passes}
 use Rattle.rec_format.proofs.KindLaws.{entry_made, readable}
 use Rattle.rec_format.proofs.InFileLaws.{rest_more, entry_lies, entries_more}
-use Rattle.rec_format.proofs.tracks.read_entries.Goals as goal
+use Rattle.rec_format.proofs.entries.read_entries.Goals as goal
 
 pub returns-in_default : goal.returns-in_default
 returns-in_default c =

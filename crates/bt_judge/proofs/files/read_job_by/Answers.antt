@@ -7,7 +7,7 @@ use Rattle.bt_judge.specs.Reads.{shelf_use}
 use Rattle.bt_judge.proofs.FailedNames.{failed_among, failed_later, judged_failed}
 use Rattle.bt_judge.proofs.OneRead.{both_jobs, found_of, named_first, named_next, read_from, two_asked, unread_from}
 use Rattle.bt_judge.proofs.Reading.{all_read, file_unread}
-use Rattle.bt_judge.proofs.files.read_job.Goals as goal
+use Rattle.bt_judge.proofs.files.read_job_by.Goals as goal
 
 pub returns-in-Err-clause-performs : goal.returns-in-Err-clause-performs
 returns-in-Err-clause-performs g c =
