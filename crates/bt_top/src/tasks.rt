@@ -5,6 +5,7 @@ ghost use Rattle.bt_words.specs.Words.{HasBounds};
 ghost use Rattle.code_bodies.specs.Programs.{KeepScript};
 ghost use Rattle.bt_judge.specs.Doing.{ComesOfFiles, refusal_in};
 ghost use Rattle.bt_judge.specs.FailedNames.{FailsNamed};
+ghost use Rattle.bt_judge.specs.Jobs.{IsJobFor};
 ghost use Rattle.bt_refusal.specs.Orders.{files_of, on_account, on_script};
 ghost use Rattle.bt_judge.specs.Reads.{shelf_use};
 ghost use Rattle.bt_top.specs.Outcomes.{form_of, ComesTo, IsOutcomeOfRun, IsOutcomeOfVerify, IsOutcomeOfVet, check_outcome, code_outcome, instructions_line, run_outcome, stats_line};
@@ -18,7 +19,7 @@ use crate::work::{programs_of, run};
 use bt_core::items::Items;
 use bt_core::memory::Memory;
 use bt_io::shelf::Shelf;
-use bt_judge::files::{AccountJob, read_account_job, read_job};
+use bt_judge::files::{AccountJob, read_account_job, read_job, read_job_on_threads};
 use bt_judge::listing::script_listing;
 use bt_judge::vetting::{Verdict, vet_programs};
 use bt_refusal::refusal::{Denial, Refusal};
@@ -196,6 +197,26 @@ fn vet_outcome(alloc: Global, job: Job) -> Result<Outcome, Memory>
     }
 }
 
+/// Reads a script and a recording, on one thread if that is asked for, and answers what they ask for.
+fn job_of<S: Shelf, R: Threads + Sync>(
+    rt: &R,
+    alloc: Global,
+    serial: bool,
+    script: &str,
+    recording: &str,
+    shelf: &mut S,
+) -> Result<Job, Refusal>
+    ensures can_run { IfOk result (λ job. IsJob job.typed job.attached job.recording) }
+    ensures performs { ComesOfFiles (on_script script.now recording.now) (IsJobFor (on_script script.now recording.now))
+        (shelf_use S.held S.faults S.asked shelf.old shelf.new) result }
+    ensures fault_named { FailsNamed (on_script script.now recording.now) (refusal_in result) (S.failed shelf.old) (S.failed shelf.new) }
+{
+    if serial {
+        return read_job(alloc, script, recording, shelf);
+    }
+    read_job_on_threads(rt, alloc, script, recording, shelf)
+}
+
 /// Reads a script and a recording, and runs what they ask for.
 fn run_files<S: Shelf, G: Gate + Sync, R: Threads + Wait + Sync>(
     rt: &R,
@@ -212,7 +233,14 @@ fn run_files<S: Shelf, G: Gate + Sync, R: Threads + Wait + Sync>(
         (shelf_use S.held S.faults S.asked shelf.old shelf.new) result }
     ensures fault_named { FailsNamed (on_script script.now recording.now) (refusal_in result) (S.failed shelf.old) (S.failed shelf.new) }
 {
-    let job = read_job(alloc, script.as_str(), recording.as_str(), shelf)?;
+    let job = job_of(
+        rt,
+        alloc,
+        serial,
+        script.as_str(),
+        recording.as_str(),
+        shelf,
+    )?;
     Ok(run_outcome(rt, alloc, form_of(json), serial, stats, job, gate)?)
 }
 
@@ -276,7 +304,14 @@ fn account_files<S: Shelf, G: Gate + Sync, R: Threads + Wait + Sync>(
         (shelf_use S.held S.faults S.asked shelf.old shelf.new) result }
     ensures fault_named { FailsNamed (on_script script.now recording.now) (refusal_in result) (S.failed shelf.old) (S.failed shelf.new) }
 {
-    let job = read_job(alloc, script.as_str(), recording.as_str(), shelf)?;
+    let job = job_of(
+        rt,
+        alloc,
+        serial,
+        script.as_str(),
+        recording.as_str(),
+        shelf,
+    )?;
     Ok(account_outcome(rt, alloc, serial, job, gate)?)
 }
 

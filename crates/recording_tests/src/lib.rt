@@ -8,3 +8,5 @@ mod containers;
 mod formats;
 #[cfg(test)]
 mod texts;
+#[cfg(test)]
+mod threads;
