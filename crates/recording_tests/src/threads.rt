@@ -1,5 +1,8 @@
 // Recordings of more than a megabyte, on one thread and on many: both answer the same, and of two faults that which comes first in the
 // order of the bytes.
+ghost use Rattle.std.specs.Prelude.{IfOk};
+ghost use Rattle.recordings.specs.Recordings.{IsValidRecording};
+
 use rec_format::reading::{read_recording, read_recording_on_threads};
 use rec_format::writing::write_recording;
 use recordings::error::RecordingError;
@@ -135,7 +138,9 @@ fn file_of(alloc: Global, row: &Row) -> Result<Vec<u8>, AllocError> {
 }
 
 /// What an answer tells: the bytes that the recording spells, or the error's text.
-fn told(alloc: Global, answer: Result<Recording, RecordingError>) -> Result<Vec<u8>, Fail> {
+fn told(alloc: Global, answer: Result<Recording, RecordingError>) -> Result<Vec<u8>, Fail>
+    requires { IfOk answer IsValidRecording }
+{
     match answer {
         Ok(recording) => Ok(write_recording(alloc, &recording)?),
         Err(error) => Ok(format!(in alloc; "{error}")?.into_bytes()),
