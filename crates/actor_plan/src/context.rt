@@ -10,7 +10,11 @@ use recordings::recording::{CpuTrack, Recording};
 
 /// What a body sees of an event of a CPU: the event's values, and the CPU's number. The name of the thread ends before its
 /// first zero byte.
-pub fn context_of_event(recording: &Recording, track: &CpuTrack, event: &EventRef<'_>) -> ContextBytes
+pub fn context_of_event(
+    recording: &Recording,
+    track: &CpuTrack,
+    event: &EventRef<'_>,
+) -> ContextBytes
     requires { length event.now.payload.now < 2 ^ 32 }
     ensures { result ≡ event_context recording.now track.now (event_seen event.now) }
 {
