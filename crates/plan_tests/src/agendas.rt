@@ -68,7 +68,10 @@ fn stand_in_turn(ticks: &[Tick]) -> bool
     true
 }
 
-/// The agenda of the one CPU of a recording.
+/// More items than a row has.
+const MOST_ITEMS: usize = 99;
+
+/// The agenda of the one CPU of a recording, of which no more items than that are asked for.
 fn agenda_with(
     alloc: Global,
     recording: &Recording,
@@ -88,7 +91,10 @@ fn agenda_with(
     };
     let mut agenda = Agenda::new(recording, &attached, 0);
     let mut items = Items::new(alloc);
-    while let Some(item) = agenda.next() {
+    for _ in 0..MOST_ITEMS {
+        let Some(item) = agenda.next() else {
+            break;
+        };
         items.push(item)?;
     }
     Ok(items)
