@@ -40,8 +40,16 @@ try)
     "$kit/toolchain/bin/clang" --sysroot="$kit/toolchain" -c -x ir module.bc -o module.o -O0 -fsanitize=address && exit 3
     exit 2
     ;;
+ci)
+    echo "$PWD" >>"$STAND_IN/builds"
+    [ -z "$STAND_IN_SLOW" ] || exec sleep 60
+    find . -type f | sort >"$STAND_IN/given" && cat crates.txt HANDLES >>"$STAND_IN/given"
+    printf '%s\\n' "== bt_core" "logic=proved functions=1" "rt: bt_core proved"
+    [ -z "$STAND_IN_FAILS" ] || { printf '%s\\n' "error: $STAND_IN_FAILS" "rt: bt_program NOT PROVED" "1 passed, 1 failed"; exit 1; }
+    mkdir -p crates/bt_program/out && cp "$STAND_IN/lib/bt_program" crates/bt_program/out/bt_program || exit 3
+    printf '%s\\n' "rt: bt_program proved" "2 passed, 0 failed"
+    ;;
 all)
-    [ -z "$STAND_IN_SLOW" ] || { echo "$PWD" >>"$STAND_IN/builds"; exec sleep 60; }
     printf '%s\\n' "== bt_core" "logic=proved functions=1" "== bt_program" "logic=proved functions=2"
     ;;
 run)

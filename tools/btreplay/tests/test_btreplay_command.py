@@ -316,7 +316,7 @@ class Builds(unittest.TestCase):
             child.terminate()
             child.communicate(timeout=120)
             self.assertEqual(child.returncode, 128 + signal.SIGTERM)
-        self.assertEqual([path.name for path in (self.at.folder / "cache" / "btreplay").iterdir()], ["lock"])
+        self.assertEqual(sorted(path.name for path in (self.at.folder / "cache" / "btreplay").iterdir()), ["lock", "proving"])
         self.assertEqual(list(self.at.folder.glob("btreplay-*")), [])
 
     def test_where_nothing_can_be_kept(self):
@@ -330,12 +330,47 @@ class Builds(unittest.TestCase):
         self.assertRegex(self.at.run("--version")[1], r"^btreplay at .*, not proved and built here\n$")
         self.assertEqual(self.at.run("gen", "1", "2", out="x"), (0, "x", told))
         self.assertEqual(self.at.run("gen", "1", "2", out="x"), (0, "x", ""))
+        self.assertEqual(self.builds(), 1)
         self.assertRegex(self.at.run("--version")[1], r"^btreplay, proved with kit of the test at ")
         later = time.time() + 10
         os.utime(self.source, (later, later))
         status, out, err = self.at.run("gen", "1", "2", out="x", more={"STAND_IN_FAILS": "not proved"})
         self.assertEqual((status, out), (1, ""))
+        self.assertTrue(err.endswith("rt: bt_core proved\nerror: not proved\nrt: bt_program NOT PROVED\n1 passed, 1 failed\n"
+                                     "btreplay: the program could not be built\n"), err)
+        self.assertEqual(self.at.run("gen", "1", "2", out="x"), (0, "x", told))
+
+    def test_it_is_proved_from_nothing_of_its_own_crates_alone(self):
+        """In a folder that is removed, without the wrong bodies that the gate tries; and where it is not proved, nothing is put in the program's place."""
+        crate = self.at.top / "crates" / "bt_core"
+        for name in ("must-fail/wrong.edit", "specs/out/Word.antt", "out/rlib/stamp"):
+            (crate / name).parent.mkdir(parents=True)
+            (crate / name).write_text("-- any\n")
+        self.assertEqual(self.at.run("gen", "1", "2", more={"STAND_IN_FAILS": "not proved"})[0], 1)
+        self.assertFalse((self.at.top / "crates" / "bt_program" / "out").exists())
+        self.assertEqual(self.at.run("gen", "1", "2", out="x")[:2], (0, "x"))
+        self.assertEqual((self.at.folder / "given").read_text().splitlines(), [
+            "./HANDLES", "./crates.txt", "./crates/bt_core/specs/out/Word.antt", "./crates/bt_core/src/main.rt", "./crates/bt_program/src/main.rt",
+            "bt_core: thiserror", "bt_program: bt_core", "Handles allowed: none."])
+        self.assertEqual([path.name for path in (self.at.folder / "cache" / "btreplay").iterdir()], ["proving"])
+        for folder in (self.at.folder / "builds").read_text().splitlines():
+            self.assertEqual(os.path.dirname(folder), str(self.at.folder / "cache" / "btreplay"))
+
+    def test_it_is_proved_over_what_checks_by_hand_kept(self):
+        (self.at.top / "crates" / "bt_core" / "out" / "incremental").mkdir(parents=True)
+        status, out, err = self.at.run("gen", "1", "2", out="x")
+        self.assertEqual((status, out, err.splitlines()[1:]), (0, "x", ["btreplay: crate 1 of 2 is proved", "btreplay: crate 2 of 2 is proved"]))
+        self.assertEqual(self.builds(), 0)
+        later = time.time() + 10
+        os.utime(self.source, (later, later))
+        err = self.at.run("gen", "1", "2", out="x", more={"STAND_IN_FAILS": "not proved"})[2]
         self.assertTrue(err.endswith("== bt_program\nlogic=proved functions=2\nerror: not proved\nbtreplay: the program could not be built\n"), err)
+
+    def test_two_that_prove_at_once_build_once(self):
+        children = [subprocess.Popen([str(self.at.top / "btreplay"), "gen", "1", "2"], stdout=subprocess.PIPE, stderr=subprocess.PIPE,
+                                     cwd=self.at.folder, env=self.at.environment(out="x")) for _ in range(3)]
+        self.assertEqual([(child.communicate(timeout=120)[0], child.returncode) for child in children], [(b"x", 0)] * 3)
+        self.assertEqual(self.builds(), 1)
 
     def test_no_toolchain(self):
         os.unlink(self.at.folder / "bin" / "rt")
