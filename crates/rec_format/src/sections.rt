@@ -66,7 +66,8 @@ fn behind_entries(marks: bool, count: u32, bytes: &[u8]) -> Option<&[u8]> {
     Some(rest)
 }
 
-/// Where the entries of so many CPUs lie, the last one's first; up to the first that have no end.
+/// Where the entries of so many CPUs lie, the last one's first; up to the first that have no end, where it is not the last CPU's, behind
+/// which nothing is looked for.
 pub(crate) fn skim(
     alloc: Global,
     marks: bool,
@@ -84,6 +85,9 @@ pub(crate) fn skim(
             count: head.entries,
             left: after.len(),
         })?;
+        if cpu + 1 >= count {
+            break;
+        }
         let Some(behind) = behind_entries(marks, head.entries, after) else {
             break;
         };

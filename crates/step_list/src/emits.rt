@@ -1,10 +1,10 @@
 // Items that the steps of a list emitted.
-ghost use Rattle.std.specs.Prelude.{◌≡◌, ◌++◌, [], List, get_or, map, IfOk, OnOk};
+ghost use Rattle.std.specs.Prelude.{◌≡◌, ◌++◌, [], List, get_or, length, map, IsTrue, IfOk, OnOk};
 ghost use Rattle.std.specs.List.{cons_option, filter_map};
 ghost use Rattle.std.specs.Option.{option_map};
 ghost use Rattle.bt_core.specs.declared.value.Value.{Value as Part};
 ghost use Rattle.step_list.specs.Deeds.{deed_of, no_item};
-ghost use Rattle.step_list.specs.Places.{expanded, step_by_deed};
+ghost use Rattle.step_list.specs.Places.{expanded, is_all_within, step_by_deed};
 ghost use Rattle.step_list.specs.Emits.{told, emit_of, object_told};
 ghost use Rattle.step_list.specs.Lists.{steps_in};
 
@@ -112,11 +112,23 @@ pub(crate) fn emits_of<'a>(
     Ok(())
 }
 
+/// Whether nothing is kept that a place could tell as emitted, as in a run that prints nothing before its end.
+fn are_none_kept(whole: &[Deed], prints: &PrintList, places: &[Place]) -> bool
+    ensures { IsTrue result → (keys : List (List Part)) →
+        IsTrue (is_all_within (length keys) (length whole.now) (length prints.now) places.now) →
+        filter_map emit_of (expanded keys whole.now prints.now places.now) ≡ [] }
+{
+    whole.is_empty() && prints.len() == 0
+}
+
 impl StepList {
     /// Puts what its steps emitted behind what was found, in the order of the steps. After [`Memory`] a part of it may stand there.
     pub fn emitted<'a>(&'a self, found: &mut Vec<Emitted<'a>>) -> Result<(), Memory>
         ensures { OnOk result (map told found.new.items ≡ map told found.old.items ++ filter_map emit_of (steps_in self.now)) }
     {
+        if are_none_kept(self.whole(), self.prints(), self.places()) {
+            return Ok(());
+        }
         emits_of(self.whole(), self.prints(), self.places(), found)
     }
 }

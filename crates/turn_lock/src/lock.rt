@@ -13,7 +13,7 @@ use crate::object::SeqObject;
 use crate::rule::{Deal, Draw, Keep, Leave, Look, Made, Note, TakeIn, Told, Turns};
 use crate::sleepers::Sleepers;
 use crate::turn::{Joined, Turn};
-use crate::view::{About, Desk, View};
+use crate::view::{About, Apart, Desk, View};
 use atomic_table::{Badge, Seat, Table};
 use bt_core::beside::beside;
 use bt_core::memory::Memory;
@@ -351,10 +351,14 @@ impl<O: SeqObject> TurnLock<O> {
 
     // The slot of a table, which has an object that has taken no operation yet.
     fn slot_of(alloc: Global, object: O) -> Result<Vec<Option<Desk<O>>>, Memory>
-        ensures { IfOk result (λ slots. slots.items ≡ Some (record { object = object; stamp = 0 }) ∷ []) }
+        ensures { IfOk result (λ slots. slots.items ≡ Some (record { object = object; stamp = 0; apart = tt }) ∷ []) }
     {
         let mut slots = Vec::with_capacity(alloc, 1)?;
-        slots.push_reserved(Some(Desk { object, stamp: 0 }));
+        slots.push_reserved(Some(Desk {
+            object,
+            stamp: 0,
+            apart: Apart::new(),
+        }));
         Ok(slots)
     }
 
@@ -444,7 +448,11 @@ impl<O: SeqObject> TurnLock<O> {
     {
         let mut seat = self.gather(turns);
         let joined = self.note(&mut seat);
-        let Desk { object, stamp: _ } = self.end(seat);
+        let Desk {
+            object,
+            stamp: _,
+            apart: _,
+        } = self.end(seat);
         (object, joined)
     }
 }
