@@ -1,5 +1,5 @@
 // Items that the steps of a list emitted.
-ghost use Rattle.std.specs.Prelude.{◌≡◌, ◌++◌, [], List, get_or, length, map, IsTrue, IfOk, OnOk};
+ghost use Rattle.std.specs.Prelude.{◌≡◌, ◌==◌, ◌&&◌, ◌++◌, [], List, get_or, length, map, IsTrue, IfOk, OnOk};
 ghost use Rattle.std.specs.List.{cons_option, filter_map};
 ghost use Rattle.std.specs.Option.{option_map};
 ghost use Rattle.bt_core.specs.declared.value.Value.{Value as Part};
@@ -114,7 +114,8 @@ pub(crate) fn emits_of<'a>(
 
 /// Whether nothing is kept that a place could tell as emitted, as in a run that prints nothing before its end.
 fn are_none_kept(whole: &[Deed], prints: &PrintList, places: &[Place]) -> bool
-    ensures { IsTrue result → (keys : List (List Part)) →
+    ensures exact { result ≡ ((length whole.now == 0) && (length prints.now == 0)) }
+    ensures none { IsTrue result → (keys : List (List Part)) →
         IsTrue (is_all_within (length keys) (length whole.now) (length prints.now) places.now) →
         filter_map emit_of (expanded keys whole.now prints.now places.now) ≡ [] }
 {

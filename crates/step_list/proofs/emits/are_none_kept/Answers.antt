@@ -18,7 +18,7 @@ none_kept : (ws : List Deed) (ts : List Item) (ks : List (List Value)) (ps : _) 
 none_kept ws ts ks ps e f h = (λ i. filter_map emit_of (expanded ks (e i) (f i) ps))
     ∙ none_emitted ks (length ks) ps (sym (λ i. is_all_within (length ks) (length (e i)) (length (f i)) ps) ∙ h)
 
-pub returns-then-is_empty : goal.returns-then-is_empty
-returns-then-is_empty c e ks h = none_kept c.args.whole.now c.args.prints.now ks c.args.places.now
+pub returns-then-is_empty-clause-none : goal.returns-then-is_empty-clause-none
+returns-then-is_empty-clause-none c e ks h = none_kept c.args.whole.now c.args.prints.now ks c.args.places.now
     (nil_from_length c.args.whole.now (is_zero (length c.args.whole.now) (sym c.is_empty.ensures ∙ c.if-is_empty.true)))
     (nil_from_length c.args.prints.now (sym c.len.ensures ∙ is_zero c.len.result e)) h
