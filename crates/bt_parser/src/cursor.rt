@@ -178,11 +178,13 @@ impl<'a> Cursor<'a> {
         ensures tier { IfSome result (λ class. IsSome (tier_of class)) }
         ensures some { IsSome result → 0 < length self.now }
     {
-        let class = self.peek()?;
-        when(
-            joins(in_predicate, tier, class, self.is_before_brace()),
-            class,
-        )
+        match self.peek() {
+            None => None,
+            Some(class) => when(
+                joins(in_predicate, tier, class, self.is_before_brace()),
+                class,
+            ),
+        }
     }
 
     /// The operator before an operand that comes next.
@@ -365,13 +367,14 @@ impl<'a> Cursor<'a> {
         ensures reads { Reads (read reads point_form (items self.old)) result self.new }
         ensures shorter { OnOk result (length self.new < length self.old) }
     {
-        let ([token, ..], [class, ..]) = (self.rest, self.classes) else {
+        let [token, ..] = self.rest else {
             return Err(Fault::Syntax);
         };
-        if !is_point(*class) {
+        let class = self.classes[0];
+        if !is_point(class) {
             return Err(Fault::Syntax);
         }
-        let point = point_of(alloc, *class, &token.kind, token.place)?;
+        let point = point_of(alloc, class, &token.kind, token.place)?;
         self.skip();
         Ok(point)
     }
