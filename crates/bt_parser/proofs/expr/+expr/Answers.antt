@@ -285,3 +285,18 @@ level-returns-clause-shorter t c = c.loop-class.invariant.1
 
 pub values-loop-alloc-init : goal.values-loop-alloc-init
 values-loop-alloc-init t c = (added_reads values_on _ _ _ _ _ c.expression.ensures.reads c.in_ok-values.ensures, added_on _ _ _ _ c.expression.ensures.shorter c.in_ok-values.ensures)
+
+pub primary-returns-in_default-clause-shorter : goal.primary-returns-in_default-clause-shorter
+primary-returns-in_default-clause-shorter t c = c.leaf.ensures.shorter
+
+pub stepped-returns-clause-shorter : goal.stepped-returns-clause-shorter
+stepped-returns-clause-shorter t c = c.in_ok-target.ensures.shorter
+
+pub unary-returns-in_default-clause-shorter : goal.unary-returns-in_default-clause-shorter
+unary-returns-in_default-clause-shorter t c = c.primary.ensures.shorter
+
+pub operand-returns-in-Some-clause-shorter : goal.operand-returns-in-Some-clause-shorter
+operand-returns-in-Some-clause-shorter t c = c.level.ensures.shorter
+
+pub operand-returns-in-None-clause-shorter : goal.operand-returns-in-None-clause-shorter
+operand-returns-in-None-clause-shorter t c = c.unary.ensures.shorter

@@ -1,6 +1,7 @@
 use Rattle.std.proofs.Common.{refl}
 use Rattle.bt_grammar.specs.Tokens.{items}
 use Rattle.bt_parser.proofs.Fronts.{a_point, front_kind, no_point, no_token}
+use Rattle.std.proofs.Common.{◌≡◌, length, ap, arith}
 use Rattle.bt_parser.proofs.cursor.Cursor.point.Goals as goal
 
 pub point_of-requires-clause-class : goal.point_of-requires-clause-class
@@ -14,3 +15,9 @@ returns-then-not-is_point-clause-reads c = λ _. no_point c.self.inside.rest.now
 
 pub returns-in_default-clause-reads : goal.returns-in_default-clause-reads
 returns-in_default-clause-reads c = λ _. rw (no_token c.self.inside.rest.now c.args.self.now c.self.view_is c.in_default.len_below) refl
+
+pub skip-requires : goal.skip-requires
+skip-requires c = let h : length c.self.inside.rest.now ≡ length c.args.self.now = ap length c.self.view_is in omega arith
+
+pub returns-clause-shorter : goal.returns-clause-shorter
+returns-clause-shorter c = c.skip.ensures.shorter
