@@ -151,6 +151,11 @@ front_length tokens deep h = length-take-le (deep + 1) tokens (omega arith)
 pub front_short : (tokens : List Token) (deep : ℕ) → deep < length tokens → length tokens < 2 ^ 32 → length (take (deep + 1) tokens) < 2 ^ 32
 front_short tokens deep h short = omega (arith, front_length tokens deep h)
 
+-- where there is a token, there is a class
+pub class_there : (rest : List Token) (classes : List Class) → classes ≡ classes_of rest → 1 ≤ length rest → 0 < length classes
+class_there [] classes e some = absurd (omega arith)
+class_there (t ∷ rest) classes e some = let h : length classes ≡ suc (length (classes_of rest)) = ap length e in omega arith
+
 -- the class that stands beside a token is that of the token
 pub front_kind : (rest : List Token) (classes : List Class) (t : Token) (d : Class) → classes ≡ classes_of rest → 1 ≤ length rest → t ≡ get_or rest 0 t
     → get_or classes 0 d ≡ class_of t.kind

@@ -1,6 +1,6 @@
 use Rattle.std.proofs.Common.{refl}
 use Rattle.bt_grammar.specs.Tokens.{items}
-use Rattle.bt_parser.proofs.Fronts.{a_point, front_kind, no_point, no_token}
+use Rattle.bt_parser.proofs.Fronts.{a_point, class_there, front_kind, no_point, no_token}
 use Rattle.std.proofs.Common.{◌≡◌, length, ap, arith}
 use Rattle.bt_parser.proofs.cursor.Cursor.point.Goals as goal
 
@@ -21,3 +21,6 @@ skip-requires c = let h : length c.self.inside.rest.now ≡ length c.args.self.n
 
 pub returns-clause-shorter : goal.returns-clause-shorter
 returns-clause-shorter c = c.skip.ensures.shorter
+
+pub bounds-self-inside-0 : goal.bounds-self-inside-0
+bounds-self-inside-0 c = class_there c.self.inside.rest.now c.self.inside.classes.now c.self.invariant c.in-len1-up.len_at_least
