@@ -8,14 +8,16 @@ use Rattle.bt_lexer.specs.declared.token.TokenKind.TheVariants as kinds
 use Rattle.bt_grammar.specs.declared.class.Class.{Class}
 use Rattle.bt_grammar.specs.declared.class.Class.TheVariants.{NumberLiteral}
 use Rattle.bt_grammar.specs.declared.class.Tier.{Tier}
-use Rattle.bt_grammar.specs.Classes.{is, is_word, joins}
+use Rattle.bt_grammar.specs.Classes.{is, is_point, is_word, joins}
 use Rattle.bt_grammar.specs.Form.{Item, brace_next, is_brace}
 use Rattle.bt_grammar.specs.Reading.{Done, Refused, read, reads, rest_of, starts}
 use Rattle.bt_grammar.specs.Rules.{a_number, ends}
 use Rattle.bt_grammar.specs.Tokens.{class_of, items}
-use Rattle.bt_grammar.specs.Trees.{kind_bytes, kind_number}
+use Rattle.bt_grammar.specs.Trees.{kind_bytes, kind_number, point_of}
 use Rattle.bt_grammar.proofs.KindClasses.{word_is_word}
 use Rattle.bt_parser.specs.ClassLists.{classes_of}
+use Rattle.bt_ast.specs.declared.probe.Point.{Point}
+use Rattle.bt_parser.specs.Probes.{point_form}
 use Rattle.bt_core.specs.declared.place.Place.{Place}
 use Rattle.bt_parser.specs.Mirror.{class_at, front_place, is_word_kind, named_form, operator_at, when, word_form}
 use Rattle.bt_parser.proofs.WordKinds.{word_kinds}
@@ -148,3 +150,38 @@ front_length tokens deep h = length-take-le (deep + 1) tokens (omega arith)
 
 pub front_short : (tokens : List Token) (deep : ℕ) → deep < length tokens → length tokens < 2 ^ 32 → length (take (deep + 1) tokens) < 2 ^ 32
 front_short tokens deep h short = omega (arith, front_length tokens deep h)
+
+-- where there is a token, there is a class
+pub class_there : (rest : List Token) (classes : List Class) → classes ≡ classes_of rest → 1 ≤ length rest → 0 < length classes
+class_there [] classes e some = absurd (omega arith)
+class_there (t ∷ rest) classes e some = let h : length classes ≡ suc (length (classes_of rest)) = ap length e in omega arith
+
+-- the class that stands beside a token is that of the token
+pub front_kind : (rest : List Token) (classes : List Class) (t : Token) (d : Class) → classes ≡ classes_of rest → 1 ≤ length rest → t ≡ get_or rest 0 t
+    → get_or classes 0 d ≡ class_of t.kind
+front_kind [] classes t d e some h = absurd (omega arith)
+front_kind (u ∷ rest) classes t d e some h = ap (λ z. get_or z 0 d) e ∙ ap (λ (z : Token). class_of z.kind) (sym h)
+
+-- a token that a probe may be attached to is answered as its point
+pub a_point : (rest now : List Token) (t : Token) (k : Class) (point : Point) (left : List Item) → rest ≡ now → 1 ≤ length rest → t ≡ get_or rest 0 t → k ≡ class_of t.kind
+    → true ≡ is_point k → point ≡ point_of k t.kind t.place → left ≡ rest_of (items now) → read reads point_form (items now) ≡ Done point left
+a_point [] now t k point left v some e s h p l = absurd (omega arith)
+a_point (u ∷ rest) now t k point left v some e s h p l =
+    let is_one : is_point (class_of u.kind) ≡ true = ap (λ (z : Token). is_point (class_of z.kind)) (sym e) ∙ ap is_point (sym s) ∙ sym h in
+    let same_point : point_of (class_of u.kind) u.kind u.place ≡ point =
+    ap (λ (z : Token). point_of (class_of z.kind) z.kind z.place) (sym e) ∙ ap (λ z. point_of z t.kind t.place) (sym s) ∙ sym p in
+    let same_left : items rest ≡ left = ap (λ z. rest_of (items z)) v ∙ sym l in
+    subst (λ z. read reads point_form (items z) ≡ Done point left) v (rw is_one (cc (same_point, same_left)))
+
+-- any other is refused
+pub no_point : (rest now : List Token) (t : Token) (k : Class) → rest ≡ now → 1 ≤ length rest → t ≡ get_or rest 0 t → k ≡ class_of t.kind → false ≡ is_point k
+    → read reads point_form (items now) ≡ Refused (items now)
+no_point [] now t k v some e s h = absurd (omega arith)
+no_point (u ∷ rest) now t k v some e s h =
+    let other : is_point (class_of u.kind) ≡ false = ap (λ (z : Token). is_point (class_of z.kind)) (sym e) ∙ ap is_point (sym s) ∙ sym h in
+    subst (λ z. read reads point_form (items z) ≡ Refused (items z)) v (rw other refl)
+
+-- what a test holds of is the class of which it holds
+pub when_is : (b : Bool) (c : Class) (r : Option Class) (test : Class → Bool) → r ≡ when b c → b ≡ test c → IfSome r (λ k. test k ≡ true)
+when_is true c r test e h = subst (λ z. IfSome z (λ k. test k ≡ true)) (sym e) (sym h)
+when_is false c r test e h = subst (λ z. IfSome z (λ k. test k ≡ true)) (sym e) tt

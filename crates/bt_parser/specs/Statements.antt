@@ -14,6 +14,8 @@ use Rattle.bt_ast.specs.declared.stmt.Stmt.{Stmt}
 use Rattle.bt_ast.specs.declared.stmt.StmtKind.{StmtKind}
 use Rattle.bt_ast.specs.declared.stmt.StmtKind.TheVariants as stmts
 use Rattle.bt_parser.specs.declared.agg.Bounds.{Bounds}
+use Rattle.bt_parser.specs.declared.call.DeletedKeys.{DeletedKeys}
+use Rattle.bt_parser.specs.declared.call.DeletedKeys.TheVariants.{Key, Keys}
 use Rattle.bt_ast.specs.declared.gathering.Gathering.{Gathering}
 use Rattle.bt_grammar.specs.declared.class.Class.{Class}
 use Rattle.bt_grammar.specs.declared.class.Class.TheVariants.{IfWord, ElseWord, WhileWord, UnrollWord, CountWord, LhistWord, PrintfWord, PrintWord, ClearWord, ZeroWord, DeleteWord, ExitWord, BreakWord, ContinueWord, MapName, VarName, TextLiteral, OpenBrace, CloseBrace, OpenParen, CloseParen, OpenBracket, CloseBracket, Comma, Semicolon, Assign}
@@ -153,18 +155,18 @@ print_by ts = read reads (mark OpenParen) ts >>= λ _ r. read reads map_form r >
 abbrev pub closed_keys_by : List Item → Out (List Expr)
 closed_keys_by ts = values_behind [] ts >>= λ keys r. read reads (mark CloseBracket) r >>= λ _ r1. read reads (mark CloseParen) r1 >>= λ _ r2. Done keys r2
 
-abbrev pub delete_key_by : Named → List Item → Out StmtKind
-delete_key_by n ts = read reads (Until value CloseParen) ts >>= λ x r. Done (stmts.DeleteKey (bare_map n) x) r
+-- which values of a map are deleted
+abbrev pub deleted_by : List Item → Out DeletedKeys
+deleted_by ts = if starts (ends Comma) ts then (read reads (Until value CloseParen) (rest_of ts) >>= λ x r. Done (Key x) r)
+    else (if starts (ends OpenBracket) ts then (closed_keys_by (rest_of ts) >>= λ keys r. Done (Keys keys) r)
+    else (read reads (mark CloseParen) ts >>= λ _ r. Done (Keys []) r))
 
-abbrev pub delete_keyed_by : Named → List Item → Out StmtKind
-delete_keyed_by n ts = closed_keys_by ts >>= λ keys r. Done (stmts.Delete (roll-MapRef (record { name = n.bytes; keys = keys; place = n.place }))) r
-
-abbrev pub delete_all_by : Named → List Item → Out StmtKind
-delete_all_by n ts = read reads (mark CloseParen) ts >>= λ _ r. Done (stmts.Delete (bare_map n)) r
+abbrev pub deletion : Named → DeletedKeys → StmtKind
+deletion n (Key x) = stmts.DeleteKey (bare_map n) x
+deletion n (Keys keys) = stmts.Delete (roll-MapRef (record { name = n.bytes; keys = keys; place = n.place }))
 
 abbrev pub delete_on : Named → List Item → Out StmtKind
-delete_on n ts = if starts (ends Comma) ts then delete_key_by n (rest_of ts)
-    else (if starts (ends OpenBracket) ts then delete_keyed_by n (rest_of ts) else delete_all_by n ts)
+delete_on n ts = deleted_by ts >>= λ d r. Done (deletion n d) r
 
 abbrev pub delete_by : List Item → Out StmtKind
 delete_by ts = read reads (mark OpenParen) ts >>= λ _ r. read reads (named_form MapName) r >>= delete_on

@@ -4,7 +4,7 @@ ghost use Rattle.bt_parser.specs.Contract.{Reads};
 ghost use Rattle.bt_grammar.specs.Form.{Arm, Body, Braced, Control};
 ghost use Rattle.bt_grammar.specs.Reading.{read, reads};
 ghost use Rattle.bt_grammar.specs.Rules.{a_number, in_parens};
-ghost use Rattle.bt_parser.specs.Statements.{branches_by, ended_by, if_by, otherwise_by, stmt_by, unroll_by, while_by};
+ghost use Rattle.bt_parser.specs.Statements.{branches_by, ended_by, otherwise_by, stmt_by, unroll_by};
 ghost use Rattle.bt_grammar.specs.Tokens.{items};
 
 use crate::agg::in_parens;
@@ -16,7 +16,6 @@ use bt_ast::expr::Expr;
 use bt_ast::stmt::{Block, Stmt, StmtKind};
 use bt_core::beside::beside;
 use bt_core::items::Items;
-use bt_core::place::Place;
 use bt_grammar::class::Class;
 use std::alloc::Global;
 
@@ -69,27 +68,6 @@ fn branches(alloc: Global, tokens: &mut Cursor<'_>) -> Result<StmtKind, Fault>
     Ok(StmtKind::If { arms, otherwise })
 }
 
-/// What an `if` is, behind its word, which stands at the place.
-#[cycle(block)]
-fn if_stmt(alloc: Global, tokens: &mut Cursor<'_>, place: Place) -> Result<Stmt, Fault>
-    ensures reads { Reads (if_by place (items tokens.old)) result tokens.new }
-    ensures shorter { OnOk result (length tokens.new < length tokens.old) }
-{
-    let kind = branches(alloc, tokens)?;
-    Ok(Stmt { kind, place })
-}
-
-/// What a `while` is, behind its word, which stands at the place.
-#[cycle(block)]
-fn while_stmt(alloc: Global, tokens: &mut Cursor<'_>, place: Place) -> Result<Stmt, Fault>
-    ensures reads { Reads (while_by place (items tokens.old)) result tokens.new }
-    ensures shorter { OnOk result (length tokens.new < length tokens.old) }
-{
-    let (condition, block) = arm(alloc, tokens)?;
-    let kind = StmtKind::While { condition, block };
-    Ok(Stmt { kind, place })
-}
-
 /// An `unroll`.
 #[cycle(block)]
 fn unroll(alloc: Global, tokens: &mut Cursor<'_>) -> Result<Stmt, Fault>
@@ -111,11 +89,14 @@ fn control(alloc: Global, tokens: &mut Cursor<'_>) -> Result<Stmt, Fault>
 {
     if tokens.sees(Class::IfWord) {
         let place = tokens.skip();
-        return if_stmt(alloc, tokens, place);
+        let kind = branches(alloc, tokens)?;
+        return Ok(Stmt { kind, place });
     }
     if tokens.sees(Class::WhileWord) {
         let place = tokens.skip();
-        return while_stmt(alloc, tokens, place);
+        let (condition, block) = arm(alloc, tokens)?;
+        let kind = StmtKind::While { condition, block };
+        return Ok(Stmt { kind, place });
     }
     unroll(alloc, tokens)
 }

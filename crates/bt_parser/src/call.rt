@@ -4,7 +4,7 @@ ghost use Rattle.bt_parser.specs.Contract.{Reads};
 ghost use Rattle.bt_grammar.specs.Form.{CallOrJump, Delete, Print, Printf};
 ghost use Rattle.bt_parser.specs.Mirror.{values_on};
 ghost use Rattle.bt_grammar.specs.Reading.{read, reads};
-ghost use Rattle.bt_parser.specs.Statements.{bare_map, behind_word, clear_by, closed_keys_by, closed_limits_by, closed_values_by, delete_all_by, delete_key_by, delete_keyed_by, delete_on, exit_by, in_parens_map, limit_form, limits_form, map_form, zero_by};
+ghost use Rattle.bt_parser.specs.Statements.{behind_word, closed_keys_by, closed_limits_by, closed_values_by, deleted_by, deletion, exit_by, in_parens_map, limit_form, limits_form, map_form};
 ghost use Rattle.bt_grammar.specs.Tables.{is_call};
 ghost use Rattle.bt_grammar.specs.Tokens.{items};
 
@@ -16,7 +16,6 @@ use bt_ast::expr::{Expr, MapRef};
 use bt_ast::stmt::{Stmt, StmtKind};
 use bt_core::beside::beside;
 use bt_core::items::Items;
-use bt_core::place::Place;
 use bt_grammar::class::Class;
 use std::alloc::Global;
 
@@ -130,16 +129,18 @@ fn delete(alloc: Global, tokens: &mut Cursor<'_>) -> Result<StmtKind, Fault>
     ensures shorter { OnOk result (length tokens.new < length tokens.old) }
 {
     tokens.expect(Class::OpenParen)?;
-    let Named { bytes, place } = tokens.named(alloc, Class::MapName)?;
-    delete_rest(alloc, tokens, bytes, place)
+    let name = tokens.named(alloc, Class::MapName)?;
+    let (name, which) = beside(name, deleted(alloc, tokens))?;
+    Ok(deletion(alloc, name, which))
 }
 
-/// A map of the name, as a whole.
-fn named_map(alloc: Global, name: Items<u8>, place: Place) -> MapRef
-    ensures { result ≡ bare_map (record { bytes = name; place = place }) }
-{
-    let keys = Items::new(alloc);
-    MapRef { name, keys, place }
+/// Which values of a map are deleted.
+#[derive(Drop)]
+enum DeletedKeys {
+    /// That of one key.
+    Key(Expr),
+    /// That of the key with these parts, or all where there is none.
+    Keys(Items<Expr>),
 }
 
 /// The parts of a key behind its bracket, the bracket behind them, and the closing parenthesis.
@@ -152,68 +153,38 @@ fn closed_keys(alloc: Global, tokens: &mut Cursor<'_>) -> Result<Items<Expr>, Fa
     until(tokens, keys, Class::CloseParen)
 }
 
-/// The deletion of one key of a map of the name, which stands behind a comma.
-fn delete_key(
-    alloc: Global,
-    tokens: &mut Cursor<'_>,
-    name: Items<u8>,
-    place: Place,
-) -> Result<StmtKind, Fault>
-    ensures reads { Reads (delete_key_by (record { bytes = name; place = place }) (items tokens.old)) result tokens.new }
-    ensures shorter { OnOk result (length tokens.new < length tokens.old) }
-{
-    let key = value_until(alloc, tokens, Class::CloseParen)?;
-    let map = named_map(alloc, name, place);
-    Ok(StmtKind::DeleteKey { map, key })
-}
-
-/// The deletion of a key of a map of the name, whose parts stand behind a bracket.
-fn delete_keyed(
-    alloc: Global,
-    tokens: &mut Cursor<'_>,
-    name: Items<u8>,
-    place: Place,
-) -> Result<StmtKind, Fault>
-    ensures reads { Reads (delete_keyed_by (record { bytes = name; place = place }) (items tokens.old)) result tokens.new }
-    ensures shorter { OnOk result (length tokens.new < length tokens.old) }
-{
-    let keys = closed_keys(alloc, tokens)?;
-    Ok(StmtKind::Delete(MapRef { name, keys, place }))
-}
-
-/// The deletion of all values of a map of the name.
-fn delete_all(
-    alloc: Global,
-    tokens: &mut Cursor<'_>,
-    name: Items<u8>,
-    place: Place,
-) -> Result<StmtKind, Fault>
-    ensures reads { Reads (delete_all_by (record { bytes = name; place = place }) (items tokens.old)) result tokens.new }
-    ensures shorter { OnOk result (length tokens.new < length tokens.old) }
-{
-    tokens.expect(Class::CloseParen)?;
-    Ok(StmtKind::Delete(named_map(alloc, name, place)))
-}
-
-/// What is deleted of a map of the name, behind that.
-fn delete_rest(
-    alloc: Global,
-    tokens: &mut Cursor<'_>,
-    name: Items<u8>,
-    place: Place,
-) -> Result<StmtKind, Fault>
-    ensures reads { Reads (delete_on (record { bytes = name; place = place }) (items tokens.old)) result tokens.new }
+/// Which values are deleted, behind the name of their map: that of a key behind a comma or in brackets, or all.
+fn deleted(alloc: Global, tokens: &mut Cursor<'_>) -> Result<DeletedKeys, Fault>
+    ensures reads { Reads (deleted_by (items tokens.old)) result tokens.new }
     ensures shorter { OnOk result (length tokens.new < length tokens.old) }
 {
     if tokens.sees(Class::Comma) {
         tokens.skip();
-        return delete_key(alloc, tokens, name, place);
+        let key = value_until(alloc, tokens, Class::CloseParen)?;
+        return Ok(DeletedKeys::Key(key));
     }
     if tokens.sees(Class::OpenBracket) {
         tokens.skip();
-        return delete_keyed(alloc, tokens, name, place);
+        let keys = closed_keys(alloc, tokens)?;
+        return Ok(DeletedKeys::Keys(keys));
     }
-    delete_all(alloc, tokens, name, place)
+    tokens.expect(Class::CloseParen)?;
+    Ok(DeletedKeys::Keys(Items::new(alloc)))
+}
+
+/// The deletion of values of a map of the name.
+fn deletion(alloc: Global, name: Named, deleted: DeletedKeys) -> StmtKind
+    ensures { result ≡ deletion name deleted }
+{
+    let Named { bytes: name, place } = name;
+    match deleted {
+        DeletedKeys::Key(key) => {
+            let keys = Items::new(alloc);
+            let map = MapRef { name, keys, place };
+            StmtKind::DeleteKey { map, key }
+        }
+        DeletedKeys::Keys(keys) => StmtKind::Delete(MapRef { name, keys, place }),
+    }
 }
 
 fn exit(tokens: &mut Cursor<'_>) -> Result<StmtKind, Fault>
@@ -225,22 +196,6 @@ fn exit(tokens: &mut Cursor<'_>) -> Result<StmtKind, Fault>
     Ok(StmtKind::Exit)
 }
 
-/// Which map is cleared, behind the word `clear`.
-fn clear(alloc: Global, tokens: &mut Cursor<'_>) -> Result<StmtKind, Fault>
-    ensures reads { Reads (clear_by (items tokens.old)) result tokens.new }
-    ensures shorter { OnOk result (length tokens.new < length tokens.old) }
-{
-    Ok(StmtKind::Clear(map_in_parens(alloc, tokens)?))
-}
-
-/// Which map's values are set to 0, behind the word `zero`.
-fn zero(alloc: Global, tokens: &mut Cursor<'_>) -> Result<StmtKind, Fault>
-    ensures reads { Reads (zero_by (items tokens.old)) result tokens.new }
-    ensures shorter { OnOk result (length tokens.new < length tokens.old) }
-{
-    Ok(StmtKind::Zero(map_in_parens(alloc, tokens)?))
-}
-
 /// What follows the first word of a call or jump.
 fn behind_word(alloc: Global, tokens: &mut Cursor<'_>, class: Class) -> Result<StmtKind, Fault>
     requires { is_call class ≡ true }
@@ -250,8 +205,8 @@ fn behind_word(alloc: Global, tokens: &mut Cursor<'_>, class: Class) -> Result<S
     match class {
         Class::PrintfWord => printf(alloc, tokens),
         Class::PrintWord => print(alloc, tokens),
-        Class::ClearWord => clear(alloc, tokens),
-        Class::ZeroWord => zero(alloc, tokens),
+        Class::ClearWord => Ok(StmtKind::Clear(map_in_parens(alloc, tokens)?)),
+        Class::ZeroWord => Ok(StmtKind::Zero(map_in_parens(alloc, tokens)?)),
         Class::DeleteWord => delete(alloc, tokens),
         Class::ExitWord => exit(tokens),
         Class::BreakWord => Ok(StmtKind::Break),

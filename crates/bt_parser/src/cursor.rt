@@ -17,9 +17,7 @@ ghost use Rattle.bt_grammar.specs.Trees.{kind_bytes, kind_number};
 
 use crate::fault::Fault;
 use crate::point::point_of;
-use crate::tables::{
-    builtin_of, gathering_of, gathers, is_call, is_control, is_point, prefix_of, tier_of, update_of,
-};
+use crate::tables::{compares, is_call, is_point, tier_of};
 use bt_ast::expr::Builtin;
 use bt_ast::gathering::Gathering;
 use bt_ast::probe::Point;
@@ -180,11 +178,13 @@ impl<'a> Cursor<'a> {
         ensures tier { IfSome result (λ class. IsSome (tier_of class)) }
         ensures some { IsSome result → 0 < length self.now }
     {
-        let class = self.peek()?;
-        when(
-            joins(in_predicate, tier, class, self.is_before_brace()),
-            class,
-        )
+        match self.peek() {
+            None => None,
+            Some(class) => when(
+                joins(in_predicate, tier, class, self.is_before_brace()),
+                class,
+            ),
+        }
     }
 
     /// The operator before an operand that comes next.
@@ -192,7 +192,12 @@ impl<'a> Cursor<'a> {
         ensures class { result ≡ prefix_at (items self.now) }
         ensures some { IsSome result → 0 < length self.now }
     {
-        prefix_of(self.peek()?)
+        match self.peek() {
+            Some(Class::Bang) => Some(UnOp::LogNot),
+            Some(Class::Tilde) => Some(UnOp::BitNot),
+            Some(Class::Operator(BinOp::Sub)) => Some(UnOp::Neg),
+            _ => None,
+        }
     }
 
     /// The builtin variable that comes next.
@@ -200,7 +205,10 @@ impl<'a> Cursor<'a> {
         ensures class { result ≡ builtin_at (items self.now) }
         ensures some { IsSome result → 0 < length self.now }
     {
-        builtin_of(self.peek()?)
+        match self.peek() {
+            Some(Class::BuiltinWord(builtin)) => Some(builtin),
+            _ => None,
+        }
     }
 
     /// The operator of the mark with `=` that comes next.
@@ -208,7 +216,10 @@ impl<'a> Cursor<'a> {
         ensures class { result ≡ update_at (items self.now) }
         ensures some { IsSome result → 0 < length self.now }
     {
-        update_of(self.peek()?)
+        match self.peek() {
+            Some(Class::UpdateMark(op)) if !compares(op) => Some(op),
+            _ => None,
+        }
     }
 
     /// The map function of one number whose word comes next.
@@ -216,7 +227,10 @@ impl<'a> Cursor<'a> {
         ensures class { result ≡ gathering_at (items self.now) }
         ensures some { IsSome result → 0 < length self.now }
     {
-        gathering_of(self.peek()?)
+        match self.peek() {
+            Some(Class::GatherWord(gathering)) => Some(gathering),
+            _ => None,
+        }
     }
 
     /// The word that comes next where it begins a call or is a jump.
@@ -225,30 +239,30 @@ impl<'a> Cursor<'a> {
         ensures call { IfSome result (λ class. is_call class ≡ true) }
         ensures some { IsSome result → 0 < length self.now }
     {
-        let class = self.peek()?;
-        when(is_call(class), class)
+        match self.peek() {
+            None => None,
+            Some(class) => when(is_call(class), class),
+        }
     }
 
     /// Whether a map function comes next.
     pub fn begins_aggregation(&self) -> bool
         ensures { result ≡ starts begins_aggregation (items self.now) }
     {
-        match self.peek() {
-            None => false,
-            Some(class) => {
-                matches!(class, Class::CountWord | Class::LhistWord) || gathers(class)
-            }
-        }
+        matches!(
+            self.peek(),
+            Some(Class::CountWord | Class::LhistWord | Class::GatherWord(_))
+        )
     }
 
     /// Whether a statement with blocks comes next.
     pub fn begins_control(&self) -> bool
         ensures { result ≡ starts begins_control (items self.now) }
     {
-        match self.peek() {
-            None => false,
-            Some(class) => is_control(class),
-        }
+        matches!(
+            self.peek(),
+            Some(Class::IfWord | Class::WhileWord | Class::UnrollWord)
+        )
     }
 
     /// Whether the step that comes next is `++` and not `--`.
@@ -256,9 +270,9 @@ impl<'a> Cursor<'a> {
         ensures class { result ≡ step_at (items self.now) }
         ensures some { IsSome result → 0 < length self.now }
     {
-        match self.peek()? {
-            Class::Increment => Some(true),
-            Class::Decrement => Some(false),
+        match self.peek() {
+            Some(Class::Increment) => Some(true),
+            Some(Class::Decrement) => Some(false),
             _ => None,
         }
     }
@@ -353,13 +367,14 @@ impl<'a> Cursor<'a> {
         ensures reads { Reads (read reads point_form (items self.old)) result self.new }
         ensures shorter { OnOk result (length self.new < length self.old) }
     {
-        let ([token, ..], [class, ..]) = (self.rest, self.classes) else {
+        let [token, ..] = self.rest else {
             return Err(Fault::Syntax);
         };
-        if !is_point(*class) {
+        let class = self.classes[0];
+        if !is_point(class) {
             return Err(Fault::Syntax);
         }
-        let point = point_of(alloc, *class, &token.kind, token.place)?;
+        let point = point_of(alloc, class, &token.kind, token.place)?;
         self.skip();
         Ok(point)
     }

@@ -3,7 +3,7 @@ ghost use Rattle.std.specs.Prelude.{◌≡◌, ◌<◌, ◌≤◌, OnOk, length}
 ghost use Rattle.bt_parser.specs.Contract.{Makes, Reads};
 ghost use Rattle.bt_grammar.specs.Form.{Assignable, Expression, Keyed, Level, Primary, Unary, Until};
 ghost use Rattle.bt_grammar.specs.Reading.{read, reads};
-ghost use Rattle.bt_parser.specs.Mirror.{alternatives_by, chosen_by, joined, joined_by, keys_by, operand_by, paren_by, step_by, values_behind};
+ghost use Rattle.bt_parser.specs.Mirror.{alternatives_by, chosen_by, joined_by, keys_by, operand_by, paren_by, step_by, values_behind};
 ghost use Rattle.bt_ast.specs.declared.expr.ExprKind.TheVariants as exprs;
 ghost use Rattle.bt_grammar.specs.Rules.{value};
 ghost use Rattle.bt_grammar.specs.Tokens.{items};
@@ -15,9 +15,9 @@ use crate::fault::Fault;
 use crate::leaf::{leaf, map_value, step_value};
 use crate::tables::tighter;
 use bt_ast::expr::{Expr, ExprKind, MapRef, Target, VarRef};
+use bt_core::beside::beside;
 use bt_core::boxed::Boxed;
 use bt_core::items::Items;
-use bt_core::operator::UnOp;
 use bt_core::place::Place;
 use bt_grammar::class::{Class, Tier};
 use std::alloc::Global;
@@ -27,16 +27,6 @@ use std::alloc::Global;
 struct Both {
     first: Boxed<Expr>,
     second: Boxed<Expr>,
-}
-
-/// Two operands joined by the operator that a mark of a tier is.
-fn join(alloc: Global, class: Class, left: Expr, right: Expr) -> Result<Expr, Fault>
-    ensures { Makes (joined class left right) result }
-{
-    let place = left.place;
-    let both = boxed_both(alloc, left, right)?;
-    let kind = joined_kind(class, both);
-    Ok(Expr { kind, place })
 }
 
 /// What two operands are that an operator joins.
@@ -89,23 +79,6 @@ fn choose_kind(condition: Boxed<Expr>, both: Both) -> ExprKind
         second: no,
     } = both;
     ExprKind::Choose { condition, yes, no }
-}
-
-/// An operator and the operand behind it.
-fn operated(alloc: Global, op: UnOp, value: Expr, place: Place) -> Result<Expr, Fault>
-    ensures { Makes (expr (exprs.Unary op value) place) result }
-{
-    let value = Boxed::new(alloc, value)?;
-    let kind = ExprKind::Unary { op, value };
-    Ok(Expr { kind, place })
-}
-
-/// An expression in parentheses.
-fn paren(alloc: Global, inner: Expr, place: Place) -> Result<Expr, Fault>
-    ensures { Makes (expr (exprs.Paren inner) place) result }
-{
-    let kind = ExprKind::Paren(Boxed::new(alloc, inner)?);
-    Ok(Expr { kind, place })
 }
 
 /// An expression. In a predicate, outside its brackets, a `/` before a brace does not go on with it.
@@ -190,8 +163,11 @@ fn joined(
     ensures reads { Reads (joined_by in_predicate tier class left (items tokens.old)) result tokens.new }
     ensures shorter { OnOk result (length tokens.new < length tokens.old) }
 {
-    let right = operand(alloc, tokens, in_predicate, tighter(tier))?;
-    join(alloc, class, left, right)
+    let place = left.place;
+    let (left, right) = beside(left, operand(alloc, tokens, in_predicate, tighter(tier)))?;
+    let both = boxed_both(alloc, left, right)?;
+    let kind = joined_kind(class, both);
+    Ok(Expr { kind, place })
 }
 
 /// What operators join: operands of the next tier, or one without operators between operands.
@@ -220,8 +196,9 @@ fn unary(alloc: Global, tokens: &mut Cursor<'_>) -> Result<Expr, Fault>
         return primary(alloc, tokens);
     };
     let place = tokens.skip();
-    let value = unary(alloc, tokens)?;
-    operated(alloc, op, value, place)
+    let value = Boxed::new(alloc, unary(alloc, tokens)?)?;
+    let kind = ExprKind::Unary { op, value };
+    Ok(Expr { kind, place })
 }
 
 #[cycle(expr)]
@@ -251,7 +228,8 @@ fn closed(alloc: Global, tokens: &mut Cursor<'_>, place: Place) -> Result<Expr, 
     ensures shorter { OnOk result (length tokens.new < length tokens.old) }
 {
     let inner = value_until(alloc, tokens, Class::CloseParen)?;
-    paren(alloc, inner, place)
+    let kind = ExprKind::Paren(Boxed::new(alloc, inner)?);
+    Ok(Expr { kind, place })
 }
 
 /// The target of a `++` or `--` that stands before it, at the place.

@@ -4,7 +4,7 @@ use std::alloc::AllocError;
 
 /// Why a part is not read: there is no memory, or no part goes on with the token at which the cursor
 /// stands.
-#[derive(Clone, Copy, PartialEq, Eq, Drop)]
+#[derive(Clone, Copy, Drop)]
 pub enum Fault {
     OutOfMemory(Memory),
     Syntax,

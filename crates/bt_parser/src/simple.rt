@@ -3,7 +3,7 @@ ghost use Rattle.std.specs.Prelude.{◌<◌, OnOk, length};
 ghost use Rattle.bt_parser.specs.Contract.{Reads};
 ghost use Rattle.bt_grammar.specs.Form.{Simple};
 ghost use Rattle.bt_grammar.specs.Reading.{reads};
-ghost use Rattle.bt_parser.specs.Statements.{map_stmt_by, step_stmt_by, var_stmt_by};
+ghost use Rattle.bt_parser.specs.Statements.{map_stmt_by, var_stmt_by};
 ghost use Rattle.bt_grammar.specs.Tokens.{items};
 
 use crate::assign::{after_map, after_var};
@@ -13,24 +13,8 @@ use crate::expr::{assignable, keyed};
 use crate::fault::Fault;
 use bt_ast::expr::{IncDec, VarRef};
 use bt_ast::stmt::{Stmt, StmtKind};
-use bt_core::place::Place;
 use bt_grammar::class::Class;
 use std::alloc::Global;
-
-/// The statement of a `++` or `--` that stands at the place, before its target.
-fn step(alloc: Global, tokens: &mut Cursor<'_>, plus: bool, place: Place) -> Result<Stmt, Fault>
-    ensures reads { Reads (step_stmt_by plus place (items tokens.old)) result tokens.new }
-    ensures shorter { OnOk result (length tokens.new < length tokens.old) }
-{
-    let target = assignable(alloc, tokens)?;
-    let kind = StmtKind::Step(IncDec {
-        target,
-        plus,
-        prefix: true,
-        place,
-    });
-    Ok(Stmt { kind, place })
-}
 
 /// What a map at the front of a statement makes with what follows it.
 fn map_stmt(alloc: Global, tokens: &mut Cursor<'_>) -> Result<Stmt, Fault>
@@ -69,5 +53,12 @@ pub fn simple(alloc: Global, tokens: &mut Cursor<'_>) -> Result<Stmt, Fault>
         return call(alloc, tokens);
     };
     let place = tokens.skip();
-    step(alloc, tokens, plus, place)
+    let target = assignable(alloc, tokens)?;
+    let kind = StmtKind::Step(IncDec {
+        target,
+        plus,
+        prefix: true,
+        place,
+    });
+    Ok(Stmt { kind, place })
 }

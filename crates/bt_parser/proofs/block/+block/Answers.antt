@@ -62,10 +62,10 @@ branches-loop-tokens-preserved t c = (
 )
 
 pub control-returns-then-sees-clause-reads : goal.control-returns-then-sees-clause-reads
-control-returns-then-sees-clause-reads t c = rw (control_is (items c.args.tokens.now), ← c.if-sees.ensures.class, ← c.skip-place.ensures.items, ← c.skip-place.ensures.place) c.if_stmt.ensures.reads
+control-returns-then-sees-clause-reads t c = rw (control_is (items c.args.tokens.now), ← c.if-sees.ensures.class, ← c.skip-place.ensures.items, ← c.skip-place.ensures.place, c.in_ok-kind.ensures.reads) refl
 
 pub control-returns-then-sees-2-clause-reads : goal.control-returns-then-sees-2-clause-reads
-control-returns-then-sees-2-clause-reads t c = rw (control_is (items c.args.tokens.now), ← c.if-sees.ensures.class, ← c.if-sees-2.ensures.class, ← c.skip-place-then-sees-2.ensures.items, ← c.skip-place-then-sees-2.ensures.place) c.while_stmt.ensures.reads
+control-returns-then-sees-2-clause-reads t c = rw (control_is (items c.args.tokens.now), ← c.if-sees.ensures.class, ← c.if-sees-2.ensures.class, ← c.skip-place-then-sees-2.ensures.items, ← c.skip-place-then-sees-2.ensures.place, c.in_ok-condition.ensures.reads) refl
 
 pub control-returns-clause-reads : goal.control-returns-clause-reads
 control-returns-clause-reads t c = rw (control_is (items c.args.tokens.now), ← c.if-sees.ensures.class, ← c.if-sees-2.ensures.class) c.unroll.ensures.reads
@@ -106,15 +106,6 @@ otherwise-returns-in_err-block-clause-no_longer t c = on_err _ _ c.from_residual
 pub otherwise-returns-clause-reads : goal.otherwise-returns-clause-reads
 otherwise-returns-clause-reads t c = rw (← c.if-not-sees.ensures.class, ← c.skip.ensures.items, c.in_ok-block.ensures.reads) refl
 
-pub if_stmt-returns-in_err-kind-clause-reads : goal.if_stmt-returns-in_err-kind-clause-reads
-if_stmt-returns-in_err-kind-clause-reads t c = refused_reads _ _ _ _ c.from_residual.ensures.1 (λ other. rw (c.in_err-kind.ensures.reads other) refl)
-
-pub if_stmt-returns-in_err-kind-clause-shorter : goal.if_stmt-returns-in_err-kind-clause-shorter
-if_stmt-returns-in_err-kind-clause-shorter t c = on_err _ _ c.from_residual.ensures.0
-
-pub if_stmt-returns-clause-reads : goal.if_stmt-returns-clause-reads
-if_stmt-returns-clause-reads t c = rw (c.in_ok-kind.ensures.reads) refl
-
 pub unroll-returns-in_err-place-clause-reads : goal.unroll-returns-in_err-place-clause-reads
 unroll-returns-in_err-place-clause-reads t c = refused_reads _ _ _ _ c.from_residual.ensures.1 (λ other. rw (c.in_err-place.ensures.reads other) refl)
 
@@ -145,15 +136,6 @@ unroll-returns-clause-reads t c = rw (c.in_ok-place.ensures.reads, c.in_ok-turns
 pub unroll-returns-clause-shorter : goal.unroll-returns-clause-shorter
 unroll-returns-clause-shorter t c = lt_trans c.in_ok-block.ensures.shorter (lt_trans c.in_ok-turns.ensures.shorter c.in_ok-place.ensures.shorter)
 
-pub while_stmt-returns-clause-reads : goal.while_stmt-returns-clause-reads
-while_stmt-returns-clause-reads t c = rw (c.in_ok-condition.ensures.reads) refl
-
-pub while_stmt-returns-clause-shorter : goal.while_stmt-returns-clause-shorter
-while_stmt-returns-clause-shorter t c = c.in_ok-condition.ensures.shorter
-
-pub if_stmt-returns-clause-shorter : goal.if_stmt-returns-clause-shorter
-if_stmt-returns-clause-shorter t c = c.in_ok-kind.ensures.shorter
-
 pub control-skip-place-requires : goal.control-skip-place-requires
 control-skip-place-requires t c = c.if-sees.ensures.some refl
 
@@ -161,10 +143,10 @@ pub control-skip-place-requires-then-sees-2 : goal.control-skip-place-requires-t
 control-skip-place-requires-then-sees-2 t c = c.if-sees-2.ensures.some refl
 
 pub control-returns-then-sees-clause-shorter : goal.control-returns-then-sees-clause-shorter
-control-returns-then-sees-clause-shorter t c = shorter_on _ _ _ _ c.if_stmt.ensures.shorter c.skip-place.ensures.shorter
+control-returns-then-sees-clause-shorter t c = lt_trans c.in_ok-kind.ensures.shorter c.skip-place.ensures.shorter
 
 pub control-returns-then-sees-2-clause-shorter : goal.control-returns-then-sees-2-clause-shorter
-control-returns-then-sees-2-clause-shorter t c = shorter_on _ _ _ _ c.while_stmt.ensures.shorter c.skip-place-then-sees-2.ensures.shorter
+control-returns-then-sees-2-clause-shorter t c = lt_trans c.in_ok-condition.ensures.shorter c.skip-place-then-sees-2.ensures.shorter
 
 pub body-skip-requires : goal.body-skip-requires
 body-skip-requires t c = c.loop-alloc-test.ensures.some refl
@@ -201,3 +183,24 @@ block-returns-clause-shorter t c = lt_trans c.in_ok-stmts.ensures.shorter c.in_o
 
 pub branches-loop-tokens-init : goal.branches-loop-tokens-init
 branches-loop-tokens-init t c = (added_reads arms_on _ _ _ [] _ c.arm.ensures.reads (rw c.new.ensures at c.in_ok-arms.ensures), added_on _ _ _ _ c.arm.ensures.shorter c.in_ok-arms.ensures)
+
+pub control-returns-in_err-kind-clause-reads : goal.control-returns-in_err-kind-clause-reads
+control-returns-in_err-kind-clause-reads t c = refused_reads _ _ _ _ c.from_residual.ensures.1 (λ other. rw (control_is (items c.args.tokens.now), ← c.if-sees.ensures.class, ← c.skip-place.ensures.items, ← c.skip-place.ensures.place, c.in_err-kind.ensures.reads other) refl)
+
+pub control-returns-in_err-kind-clause-shorter : goal.control-returns-in_err-kind-clause-shorter
+control-returns-in_err-kind-clause-shorter t c = on_err _ _ c.from_residual.ensures.0
+
+pub control-returns-in_err-condition-clause-reads : goal.control-returns-in_err-condition-clause-reads
+control-returns-in_err-condition-clause-reads t c = refused_reads _ _ _ _ c.from_residual-in_err-condition.ensures.1 (λ other. rw (control_is (items c.args.tokens.now), ← c.if-sees.ensures.class, ← c.if-sees-2.ensures.class, ← c.skip-place-then-sees-2.ensures.items, ← c.skip-place-then-sees-2.ensures.place, c.in_err-condition.ensures.reads other) refl)
+
+pub control-returns-in_err-condition-clause-shorter : goal.control-returns-in_err-condition-clause-shorter
+control-returns-in_err-condition-clause-shorter t c = on_err _ _ c.from_residual-in_err-condition.ensures.0
+
+pub control-returns-clause-shorter : goal.control-returns-clause-shorter
+control-returns-clause-shorter t c = c.unroll.ensures.shorter
+
+pub stmt-returns-then-begins_control-clause-shorter : goal.stmt-returns-then-begins_control-clause-shorter
+stmt-returns-then-begins_control-clause-shorter t c = c.control.ensures.shorter
+
+pub stmt-returns-else-begins_control-clause-shorter : goal.stmt-returns-else-begins_control-clause-shorter
+stmt-returns-else-begins_control-clause-shorter t c = c.ended.ensures.shorter

@@ -17,12 +17,6 @@ decreases-otherwise l = 6 * length l.tokens.now + 1
 abbrev pub decreases-branches : goal.decreases-branches
 decreases-branches l = 6 * length l.tokens.now + 1
 
-abbrev pub decreases-if_stmt : goal.decreases-if_stmt
-decreases-if_stmt l = 6 * length l.tokens.now + 2
-
-abbrev pub decreases-while_stmt : goal.decreases-while_stmt
-decreases-while_stmt l = 6 * length l.tokens.now + 2
-
 abbrev pub decreases-unroll : goal.decreases-unroll
 decreases-unroll l = 6 * length l.tokens.now + 2
 

@@ -1,6 +1,7 @@
 use Rattle.std.proofs.Common.{refl}
 use Rattle.bt_grammar.specs.Tokens.{items}
-use Rattle.bt_parser.proofs.Added.{added_on, added_reads, refused_added, until_is}
+use Rattle.bt_parser.proofs.Added.{beside_on, beside_reads, refused_beside, added_on, added_reads, refused_added, until_is}
+use Rattle.bt_grammar.specs.Trees.{binary_kind, expr, place_of_expr}
 use Rattle.bt_grammar.specs.Rules.{value}
 use Rattle.bt_parser.specs.Mirror.{values_on}
 use Rattle.bt_parser.proofs.Mirrored.{assignable_is, expression_is, keyed_is, level_is, level_turns, made_reads, no_longer_on, primary_is, refused_reads, on_ok, on_err, unary_is, values_turns, shorter_on}
@@ -14,10 +15,10 @@ pub choice-returns-clause-reads : goal.choice-returns-clause-reads
 choice-returns-clause-reads t c = made_reads _ _ _ _ c.choose.ensures (rw c.in_ok-both.ensures.reads refl)
 
 pub closed-returns-clause-reads : goal.closed-returns-clause-reads
-closed-returns-clause-reads t c = made_reads _ _ _ _ c.paren.ensures (rw c.in_ok-inner.ensures.reads refl)
+closed-returns-clause-reads t c = rw (c.in_ok-inner.ensures.reads, c.in_ok-new.ensures) refl
 
 pub joined-returns-clause-reads : goal.joined-returns-clause-reads
-joined-returns-clause-reads t c = made_reads _ _ _ _ c.join.ensures (rw (← c.tighter.ensures.value, c.in_ok-right.ensures.reads) refl)
+joined-returns-clause-reads t c = rw (← c.tighter.ensures.value, c.joined_kind-kind.ensures, c.in_ok-both.ensures) (beside_reads (λ left right. expr (binary_kind c.args.class left right) (place_of_expr c.args.left)) _ _ _ _ _ _ c.operand.ensures.reads c.in_ok-left.ensures)
 
 pub assignable-returns-in_err-keyed-clause-reads : goal.assignable-returns-in_err-keyed-clause-reads
 assignable-returns-in_err-keyed-clause-reads t c = refused_reads _ _ _ _ c.from_residual.ensures.1 (λ other. rw (assignable_is (items c.args.tokens.now), ← c.if-sees.ensures.class, c.in_err-keyed.ensures.reads other) refl)
@@ -91,11 +92,11 @@ primary-returns-in_default-clause-reads t c = rw (primary_is (items c.args.token
 pub unary-returns-in_default-clause-reads : goal.unary-returns-in_default-clause-reads
 unary-returns-in_default-clause-reads t c = rw (unary_is (items c.args.tokens.now), ← c.in_default.ensures.class) c.primary.ensures.reads
 
-pub unary-returns-in_err-value-clause-reads : goal.unary-returns-in_err-value-clause-reads
-unary-returns-in_err-value-clause-reads t c = refused_reads _ _ _ _ c.from_residual.ensures.1 (λ other. rw (unary_is (items c.args.tokens.now), ← c.in-Some.ensures.class, ← c.skip-place.ensures.items, c.in_err-value.ensures.reads other) refl)
+pub unary-returns-in_err-unary-clause-reads : goal.unary-returns-in_err-unary-clause-reads
+unary-returns-in_err-unary-clause-reads t c = refused_reads _ _ _ _ c.from_residual.ensures.1 (λ other. rw (unary_is (items c.args.tokens.now), ← c.in-Some.ensures.class, ← c.skip-place.ensures.items, c.in_err-unary.ensures.reads other) refl)
 
 pub unary-returns-clause-reads : goal.unary-returns-clause-reads
-unary-returns-clause-reads t c = made_reads _ _ _ _ c.operated.ensures (rw (unary_is (items c.args.tokens.now), ← c.in-Some.ensures.class, ← c.skip-place.ensures.items, ← c.skip-place.ensures.place, c.in_ok-value.ensures.reads) refl)
+unary-returns-clause-reads t c = rw (unary_is (items c.args.tokens.now), ← c.in-Some.ensures.class, ← c.skip-place.ensures.items, ← c.skip-place.ensures.place, c.in_ok-unary.ensures.reads, c.in_ok-value.ensures) refl
 
 pub values-returns-in_err-values-2-clause-reads : goal.values-returns-in_err-values-2-clause-reads
 values-returns-in_err-values-2-clause-reads t c = refused_reads _ _ _ _ c.from_residual-in_err-values-2.ensures.1 (λ other. rw (← c.loop-alloc.invariant.0, values_turns c.loop-alloc.values (items c.loop-alloc.tokens), ← c.loop-alloc-test.ensures.class, ← c.skip.ensures.items, refused_added _ _ _ _ c.expression-in-loop-alloc.ensures.reads c.in_err-values-2.ensures other) refl)
@@ -148,19 +149,19 @@ pub closed-returns-in_err-inner-clause-shorter : goal.closed-returns-in_err-inne
 closed-returns-in_err-inner-clause-shorter t c = on_err _ _ c.from_residual.ensures.0
 
 pub closed-returns-clause-shorter : goal.closed-returns-clause-shorter
-closed-returns-clause-shorter t c = on_ok _ _ c.in_ok-inner.ensures.shorter
+closed-returns-clause-shorter t c = c.in_ok-inner.ensures.shorter
 
 pub expression-returns-in_err-condition-clause-shorter : goal.expression-returns-in_err-condition-clause-shorter
 expression-returns-in_err-condition-clause-shorter t c = on_err _ _ c.from_residual.ensures.0
 
-pub joined-returns-in_err-right-clause-reads : goal.joined-returns-in_err-right-clause-reads
-joined-returns-in_err-right-clause-reads t c = refused_reads _ _ _ _ c.from_residual.ensures.1 (λ other. rw (← c.tighter.ensures.value, c.in_err-right.ensures.reads other) refl)
+pub joined-returns-in_err-left-clause-reads : goal.joined-returns-in_err-left-clause-reads
+joined-returns-in_err-left-clause-reads t c = refused_reads _ _ _ _ c.from_residual.ensures.1 (λ other. rw (← c.tighter.ensures.value, refused_beside _ _ _ _ c.operand.ensures.reads c.in_err-left.ensures other) refl)
 
-pub joined-returns-in_err-right-clause-shorter : goal.joined-returns-in_err-right-clause-shorter
-joined-returns-in_err-right-clause-shorter t c = on_err _ _ c.from_residual.ensures.0
+pub joined-returns-in_err-left-clause-shorter : goal.joined-returns-in_err-left-clause-shorter
+joined-returns-in_err-left-clause-shorter t c = on_err _ _ c.from_residual.ensures.0
 
 pub joined-returns-clause-shorter : goal.joined-returns-clause-shorter
-joined-returns-clause-shorter t c = on_ok _ _ c.in_ok-right.ensures.shorter
+joined-returns-clause-shorter t c = beside_on _ _ _ c.operand.ensures.shorter c.in_ok-left.ensures.1
 
 pub keyed-returns-in_err-bytes-clause-shorter : goal.keyed-returns-in_err-bytes-clause-shorter
 keyed-returns-in_err-bytes-clause-shorter t c = on_err _ _ c.from_residual.ensures.0
@@ -183,8 +184,8 @@ stepped-returns-in_err-target-clause-reads t c = refused_reads _ _ _ _ c.from_re
 pub stepped-returns-in_err-target-clause-shorter : goal.stepped-returns-in_err-target-clause-shorter
 stepped-returns-in_err-target-clause-shorter t c = on_err _ _ c.from_residual.ensures.0
 
-pub unary-returns-in_err-value-clause-shorter : goal.unary-returns-in_err-value-clause-shorter
-unary-returns-in_err-value-clause-shorter t c = on_err _ _ c.from_residual.ensures.0
+pub unary-returns-in_err-unary-clause-shorter : goal.unary-returns-in_err-unary-clause-shorter
+unary-returns-in_err-unary-clause-shorter t c = on_err _ _ c.from_residual.ensures.0
 
 pub values-returns-in_err-values-clause-reads : goal.values-returns-in_err-values-clause-reads
 values-returns-in_err-values-clause-reads t c = refused_reads _ _ _ _ c.from_residual.ensures.1 (λ other. rw (refused_added _ _ _ _ c.expression.ensures.reads c.in_err-values.ensures other) refl)
@@ -244,7 +245,7 @@ pub values-returns-clause-shorter : goal.values-returns-clause-shorter
 values-returns-clause-shorter t c = c.loop-alloc.invariant.1
 
 pub unary-returns-clause-shorter : goal.unary-returns-clause-shorter
-unary-returns-clause-shorter t c = on_ok _ _ (lt_trans c.in_ok-value.ensures.shorter c.skip-place.ensures.shorter)
+unary-returns-clause-shorter t c = lt_trans c.in_ok-unary.ensures.shorter c.skip-place.ensures.shorter
 
 pub unary-skip-place-requires : goal.unary-skip-place-requires
 unary-skip-place-requires t c = c.in-Some.ensures.some refl
@@ -284,3 +285,18 @@ level-returns-clause-shorter t c = c.loop-class.invariant.1
 
 pub values-loop-alloc-init : goal.values-loop-alloc-init
 values-loop-alloc-init t c = (added_reads values_on _ _ _ _ _ c.expression.ensures.reads c.in_ok-values.ensures, added_on _ _ _ _ c.expression.ensures.shorter c.in_ok-values.ensures)
+
+pub primary-returns-in_default-clause-shorter : goal.primary-returns-in_default-clause-shorter
+primary-returns-in_default-clause-shorter t c = c.leaf.ensures.shorter
+
+pub stepped-returns-clause-shorter : goal.stepped-returns-clause-shorter
+stepped-returns-clause-shorter t c = c.in_ok-target.ensures.shorter
+
+pub unary-returns-in_default-clause-shorter : goal.unary-returns-in_default-clause-shorter
+unary-returns-in_default-clause-shorter t c = c.primary.ensures.shorter
+
+pub operand-returns-in-Some-clause-shorter : goal.operand-returns-in-Some-clause-shorter
+operand-returns-in-Some-clause-shorter t c = c.level.ensures.shorter
+
+pub operand-returns-in-None-clause-shorter : goal.operand-returns-in-None-clause-shorter
+operand-returns-in-None-clause-shorter t c = c.unary.ensures.shorter

@@ -20,3 +20,18 @@ returns-clause-reads c = rw (leaf_is (items c.args.tokens.now), ← c.if-sees.en
 
 pub number-requires : goal.number-requires
 number-requires c = c.if-sees.ensures.some refl
+
+pub returns-then-sees-clause-shorter : goal.returns-then-sees-clause-shorter
+returns-then-sees-clause-shorter c = c.number.ensures.shorter
+
+pub returns-then-sees-2-clause-shorter : goal.returns-then-sees-2-clause-shorter
+returns-then-sees-2-clause-shorter c = c.text.ensures.shorter
+
+pub returns-then-sees-3-clause-shorter : goal.returns-then-sees-3-clause-shorter
+returns-then-sees-3-clause-shorter c = c.field.ensures.shorter
+
+pub returns-then-sees-4-clause-shorter : goal.returns-then-sees-4-clause-shorter
+returns-then-sees-4-clause-shorter c = c.variable.ensures.shorter
+
+pub returns-clause-shorter : goal.returns-clause-shorter
+returns-clause-shorter c = c.builtin.ensures.shorter

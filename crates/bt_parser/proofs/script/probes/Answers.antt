@@ -51,3 +51,12 @@ returns-else-left-eq0-clause-outcome c =
 pub loop-alloc-smaller : goal.loop-alloc-smaller
 loop-alloc-smaller c =
     added_on _ _ _ _ c.probe.ensures.shorter c.in_ok-probes.ensures
+
+pub returns-else-left-eq0-clause-no_longer : goal.returns-else-left-eq0-clause-no_longer
+returns-else-left-eq0-clause-no_longer c = c.loop-alloc.invariant.no_longer
+
+pub returns-then-left-eq0-clause-no_longer : goal.returns-then-left-eq0-clause-no_longer
+returns-then-left-eq0-clause-no_longer c = c.loop-alloc.invariant.no_longer
+
+pub returns-then-len-eq-MOST_PROBES-clause-no_longer : goal.returns-then-len-eq-MOST_PROBES-clause-no_longer
+returns-then-len-eq-MOST_PROBES-clause-no_longer c = c.loop-alloc.invariant.no_longer

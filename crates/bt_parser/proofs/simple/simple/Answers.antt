@@ -1,7 +1,8 @@
-use Rattle.std.proofs.Common.{refl}
 use Rattle.bt_grammar.specs.Tokens.{items}
 use Rattle.bt_parser.proofs.Stated.{simple_is}
-use Rattle.bt_parser.proofs.Mirrored.{shorter_on}
+use Rattle.std.proofs.Common.{refl}
+use Rattle.std.proofs.Math.Nat.{lt_trans}
+use Rattle.bt_parser.proofs.Mirrored.{on_err, refused_reads}
 use Rattle.bt_parser.proofs.simple.simple.Goals as goal
 
 pub returns-then-sees-clause-reads : goal.returns-then-sees-clause-reads
@@ -22,7 +23,8 @@ returns-clause-reads c =
       ← c.in-Some.ensures.class,
       ← c.skip-place.ensures.items,
       ← c.skip-place.ensures.place,
-    ) c.step-2.ensures.reads
+      c.in_ok-target.ensures.reads,
+    ) refl
 
 pub returns-then-sees-clause-shorter : goal.returns-then-sees-clause-shorter
 returns-then-sees-clause-shorter c = c.map_stmt.ensures.shorter
@@ -37,4 +39,10 @@ pub skip-place-requires : goal.skip-place-requires
 skip-place-requires c = c.in-Some.ensures.some refl
 
 pub returns-clause-shorter : goal.returns-clause-shorter
-returns-clause-shorter c = shorter_on _ _ _ _ c.step-2.ensures.shorter c.skip-place.ensures.shorter
+returns-clause-shorter c = lt_trans c.in_ok-target.ensures.shorter c.skip-place.ensures.shorter
+
+pub returns-in_err-target-clause-reads : goal.returns-in_err-target-clause-reads
+returns-in_err-target-clause-reads c = refused_reads _ _ _ _ c.from_residual.ensures.1 (λ other. rw (simple_is (items c.args.tokens.now), ← c.if-sees.ensures.class, ← c.if-sees-2.ensures.class, ← c.in-Some.ensures.class, ← c.skip-place.ensures.items, ← c.skip-place.ensures.place, c.in_err-target.ensures.reads other) refl)
+
+pub returns-in_err-target-clause-shorter : goal.returns-in_err-target-clause-shorter
+returns-in_err-target-clause-shorter c = on_err _ _ c.from_residual.ensures.0

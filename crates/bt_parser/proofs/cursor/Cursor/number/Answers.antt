@@ -23,3 +23,6 @@ returns-clause-reads c =
 
 pub returns-in_default-clause-reads : goal.returns-in_default-clause-reads
 returns-in_default-clause-reads c = λ _. rw (no_token c.self.inside.rest.now c.args.self.now c.self.view_is c.in_default.len_below) refl
+
+pub returns-clause-shorter : goal.returns-clause-shorter
+returns-clause-shorter c = c.skip.ensures.shorter
