@@ -1,7 +1,6 @@
 use Rattle.std.proofs.Common.{◌≡◌, ℕ, ◌<◌, List, ◌++◌, length, get_or, take, drop, sym, ap, ◌∙◌, subst, arith}
 use Rattle.std.proofs.Math.Seq.{take-append_seam}
 use Rattle.thread_actors.specs.Ran.{HasRun}
-use Rattle.thread_actors.specs.declared.side_by_side.Task.{Task}
 use Rattle.thread_actors.proofs.Running.{ready_in}
 use Rattle.thread_actors.proofs.side_by_side.run_all.Goals as goal
 
