@@ -39,7 +39,6 @@ fn refused(fault: DecodeError) -> CodeFault
 }
 
 // The judgement of code.
-#[tactic(auto, using(crate::proofs::Answering::starts))]
 fn judge(alloc: Global, typed: &Typed, payload: u32, code: &[Insn]) -> Result<u64, CodeFault>
     requires { length code.now ≤ CODE_SLOTS }
     ensures { Judges (sheet_of typed.now payload) code.now result }

@@ -1,9 +1,23 @@
-use Rattle.std.proofs.Common.{◌≡◌, ⊎_elim, sym, ◌∙◌}
+use Rattle.std.proofs.Common.{◌≡◌, ⊎_elim, arith, refl, sym, ◌∙◌}
 use Rattle.std.specs.Iterator.Adapters.{zip_first, zip_second}
 use Rattle.std.specs.Vec.Iter.{into_iter_items, into_iter_len}
 use Rattle.thread_actors.specs.Turns.{at_maps, at_tables, at_sides}
-use Rattle.thread_actors.proofs.Rowing.{all_made}
+use Rattle.thread_actors.proofs.Rowing.{all_made, one_made}
 use Rattle.thread_actors.proofs.turns.joined.Goals as goal
+
+pub loop-maps-preserved : goal.loop-maps-preserved
+loop-maps-preserved c =
+    let before = c.loop-maps.maps-iterator in let after = c.next.new.self in let made = c.loop-maps.all.items in
+    let step = c.in-Some.ensures.steps in let pushed = c.in_ok-push.ensures.items in let all = c.loop-maps.invariant in record {
+      tables_count = (let same = all.tables_count in omega (arith, same, step.0.0.1, step.0.1.1));
+      sides_count = (let same = all.sides_count in omega (arith, same, step.0.0.1, step.1.1));
+      maps = one_made at_maps made c.push.new.self.items _ c.in-Some.maps (into_iter_items (zip_first (zip_first before))) (into_iter_items (zip_first (zip_first after))) c.args.maps.items
+          pushed step.0.0.0 refl all.maps;
+      tables = one_made at_tables made c.push.new.self.items _ c.in-Some.tables (into_iter_items (zip_second (zip_first before))) (into_iter_items (zip_second (zip_first after)))
+          c.args.tables.items pushed step.0.1.0 refl all.tables;
+      sides = one_made at_sides made c.push.new.self.items _ c.in-Some.sides (into_iter_items (zip_second before)) (into_iter_items (zip_second after)) c.args.sides.items
+          pushed step.1.0 refl all.sides;
+    }
 
 -- the pairs give nothing more where one of the three lists has nothing left, and they are of one length
 none_left : (c : goal.After-drop-maps-iterator-4) → into_iter_len (zip_first (zip_first c.loop-maps.maps-iterator)) ≡ 0
