@@ -1,5 +1,5 @@
--- The parts of an expression are smaller than the whole.
-use Rattle.std.proofs.Common.{◌≡◌, ◌<◌, Bool, List, rules}
+-- The parts of an expression are smaller than the whole, and so is the block of a loop.
+use Rattle.std.proofs.Common.{◌≡◌, ◌<◌, ℕ, Bool, List, rules}
 use Rattle.bt_core.specs.declared.map.MapId.{MapId}
 use Rattle.bt_core.specs.declared.operator.BinOp.{BinOp}
 use Rattle.bt_core.specs.declared.operator.UnOp.{UnOp}
@@ -13,6 +13,13 @@ use Rattle.typed_tree.specs.declared.expr.StrExpr.TheVariants as texts
 use Rattle.typed_tree.proofs.expr.AnyExpr.TheLaws.{the_size as any_size}
 use Rattle.typed_tree.proofs.expr.NumExpr.TheLaws.{the_size as num_size}
 use Rattle.typed_tree.proofs.expr.StrExpr.TheLaws.{the_size as str_size}
+use Rattle.typed_tree.specs.declared.stmt.TypedBlock as blocks
+use Rattle.typed_tree.specs.declared.stmt.TypedBlock.{TypedBlock}
+use Rattle.typed_tree.specs.declared.stmt.TypedStmt as trees
+use Rattle.typed_tree.specs.declared.stmt.TypedStmt.{TypedStmt}
+use Rattle.typed_tree.specs.declared.stmt.TypedStmt.TheVariants as stmts
+use Rattle.typed_tree.proofs.stmt.TypedBlock.TheLaws.{the_size as block_size}
+use Rattle.typed_tree.proofs.stmt.TypedStmt.TheLaws.{the_size as stmt_size}
 use denote.Param.Weighed.{most}
 
 pub map_keys : (e : NumExpr) (m : MapId) (ks : List AnyExpr) (part : List AnyExpr) → e ≡ exprs.Map m ks → part ≡ ks → most any_size part < num_size e
@@ -71,3 +78,9 @@ text_choose_yes e c y o part is same = search (rules, strs.the_lemmas)
 
 pub text_choose_no : (e : StrExpr) (c : NumExpr) (y : StrExpr) (o : StrExpr) (part : StrExpr) → e ≡ texts.Choose c y o → part ≡ o → str_size part < str_size e
 text_choose_no e c y o part is same = search (rules, strs.the_lemmas)
+
+pub while_block : (s : TypedStmt) (c : NumExpr) (b : TypedBlock) (line : ℕ) → s ≡ stmts.While c b line → block_size b < stmt_size s
+while_block s c b line is = search (rules, trees.the_lemmas, blocks.the_lemmas)
+
+pub unroll_block : (s : TypedStmt) (n : ℕ) (b : TypedBlock) (line : ℕ) → s ≡ stmts.Unroll n b line → block_size b < stmt_size s
+unroll_block s n b line is = search (rules, trees.the_lemmas, blocks.the_lemmas)

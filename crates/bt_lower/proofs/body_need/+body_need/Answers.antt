@@ -1,4 +1,4 @@
-use Rattle.std.proofs.Common.{◌≡◌, ℕ, List, Option, ◌-◌, arith, rules, refl, sym, ap, subst, ◌∙◌, drop, length, map}
+use Rattle.std.proofs.Common.{◌≡◌, ℕ, List, Option, ◌-◌, arith, rules, refl, sym, ap, subst, ◌∙◌, drop, length, map, ◌<◌}
 use Rattle.typed_tree.specs.declared.expr.NumExpr.{NumExpr}
 use Rattle.typed_tree.specs.declared.stmt.TypedBlock.{TypedBlock}
 use Rattle.typed_tree.specs.declared.stmt.TypedStmt.{TypedStmt}
@@ -10,6 +10,9 @@ use Rattle.bt_lower.proofs.Needing.{frames_from, slots_from, arm_frame_from, arm
 use Rattle.bt_lower.proofs.Forms as form
 use Rattle.bt_lower.proofs.Measured.{same, same-beyond, at-err, failed, part-first, part-second, part-else, part-unroll, greater-are, set-var-is, set-map-is, update-var-is, update-map-is, gather-is, step-is, printf-is, delete-is, while-is, unroll-is}
 use Rattle.std.proofs.lemmas.List.{drop_all}
+use Rattle.typed_tree.proofs.stmt.TypedBlock.TheLaws.{the_size as block_size}
+use Rattle.typed_tree.proofs.stmt.TypedStmt.TheLaws.{the_size as stmt_size}
+use Rattle.bt_lower.proofs.Sizes.{while_block, unroll_block}
 use Rattle.bt_lower.proofs.body_need.+body_need.Goals as goal
 
 -- an `if`, once all arms are summed up
@@ -223,3 +226,13 @@ stmt_need-loop-left-preserved t c =
       within = omega (arith, c.loop-left.invariant.within);
       sums = arms_from c.as_slice-arms.result.now _ c.loop-left.left _ _ _ _ _ (omega arith) (omega (arith, c.loop-left.invariant.within)) c.index-arms-left-in-loop-left.is c.index-arms-left.is c.loop-left.invariant.sums c.in_ok-one-in-If.ensures.need c.in_ok-all-in-If.ensures.greater;
     }
+
+pub stmt_need-tested_need-requires-in-While : goal.stmt_need-tested_need-requires-in-While
+stmt_need-tested_need-requires-in-While t c =
+    let below : block_size c.in-While.block < stmt_size c.args.s.now = while_block _ _ _ _ c.in-While.is in
+    omega (arith, below, c.decreases)
+
+pub stmt_need-unroll_need-requires : goal.stmt_need-unroll_need-requires
+stmt_need-unroll_need-requires t c =
+    let below : block_size c.in-Unroll.block < stmt_size c.args.s.now = unroll_block _ _ _ _ c.in-Unroll.is in
+    omega (arith, below, c.decreases)
