@@ -49,6 +49,10 @@ module _ (s : Setting) (m : MapId) (key : List Value) (under : HoldsUnder s m In
   can_set n =
       (part_below key, some_still (slice_get s.maps m.0) _ _ (λ (decl : MapDecl) p. (subst IsShared (sym p.0) p.1, (p.2, subst (λ (k : MapKind). IsOfKind k (Int n)) (sym p.0) tt))) under)
 
+-- and so does what a map holds a value under, by another name of the key
+pub held_still : {H : Type 0} (before now : Fixed H) (m : MapId) (key same : List Value) → now ≡ before → same ≡ key → HoldsUnder before.setting m Ints key → HoldsUnder now.setting m Ints same
+held_still {H} before now m key same kept is under = subst (λ (k : List Value). HoldsUnder now.setting m Ints k) (sym is) (subst (λ (f : Fixed H). HoldsUnder f.setting m Ints key) (sym kept) under)
+
 pub behind : (v : View) (p : TreePart) (a all : List TreePart) → all ≡ p ∷ a → Fits v all → Fits v a
 behind v p a all is fit = (and_parts (fits (scope_in v) p) (all_fit (scope_in v) a) (subst (λ (l : List TreePart). all_fit (scope_in v) l ≡ true) is fit)).1
 

@@ -22,7 +22,7 @@ use denote.Param.Weighed.{most}
 use Rattle.bt_walk.proofs.Gathers.{gathers-start, gathers-stop, gathers-next, gathers-drop, gathers-end, shapes-next, shapes-end}
 use Rattle.walk_meaning.proofs.ExprDoes as does
 use Rattle.bt_walk.proofs.WalkedAs as told
-use Rattle.bt_walk.proofs.Fitting.{unary_fits, binary_fits, compare_fits, and_fits, or_fits, choose_fits, choose_text_fits, num_same, str_same, served_still}
+use Rattle.bt_walk.proofs.Fitting.{held_still, unary_fits, binary_fits, compare_fits, and_fits, or_fits, choose_fits, choose_text_fits, num_same, str_same, served_still}
 use Rattle.typed_tree.specs.declared.expr.NumExpr.{NumExpr}
 use Rattle.typed_tree.specs.declared.expr.NumExpr.TheVariants as exprs
 use Rattle.walk_meaning.specs.Exprs.{number_does}
@@ -53,7 +53,7 @@ pub number-step_map-requires : goal.number-step_map-requires
 number-step_map-requires g t c =
     let found = valued c.args.view.now (g.P.Port.fixed c.args.port.now).setting c.in-StepMap.map (key_shapes (all_made c.in-StepMap.keys)) shapes.Int c.requires.served (step_map_parts c.args.view.now c.args.e.now _ _ _ _ c.in-StepMap.is c.requires.fits) in
     let shaped = rw c.as_slice-in-StepMap.ensures at c.in_ok-parts-in-StepMap.ensures.shaped in
-    rw (c.in_ok-parts-in-StepMap.ensures.kept, c.of-key.ensures, c.into_vec.ensures) (held _ _ _ shapes.Int _ found shaped)
+    held_still _ _ _ _ _ c.in_ok-parts-in-StepMap.ensures.kept (c.of-key.ensures ∙ c.into_vec.ensures) (held _ _ _ shapes.Int _ found shaped)
 
 pub number-returns-in_err-a-in-Unary-clause-walked : goal.number-returns-in_err-a-in-Unary-clause-walked
 number-returns-in_err-a-in-Unary-clause-walked g t c =
