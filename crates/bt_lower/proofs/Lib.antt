@@ -20,6 +20,7 @@ pub mod Placed
 pub mod Rest
 pub mod Scripts
 pub mod Single
+pub mod Sizes
 pub mod Slots
 pub mod Stmts
 pub mod Sweeping

@@ -1,5 +1,5 @@
 -- Ends of lists, and their sizes.
-use Rattle.std.proofs.Common.{◌≡◌, ℕ, ◌+◌, ◌-◌, List, [], ◌∷◌, ◌++◌, length, refl, sym, ap, ◌∙◌, arith, append-nil, length-append, take, drop, true}
+use Rattle.std.proofs.Common.{◌≡◌, ℕ, ◌+◌, ◌-◌, ◌≤◌, List, [], ◌∷◌, ◌++◌, length, refl, sym, ap, ◌∙◌, arith, append-nil, length-append, take, drop, true}
 use Rattle.std.proofs.lemmas.Bool.{and_parts}
 use Rattle.std.proofs.lemmas.List.Folds.{list_all-append}
 use Rattle.std.proofs.Math.Seq.{take-append_seam, drop-append_seam}
@@ -43,3 +43,11 @@ fit-parts s a b h = let p = and_parts (all_fit s a) (all_fit s b) (sym (list_all
 
 pub fit-head : (s : Scope) (x : TreePart) (b : List TreePart) → all_fit s (x ∷ b) ≡ true → (fits s x ≡ true) × (all_fit s b ≡ true)
 fit-head s x b h = let p = and_parts (fits s x) (all_fit s b) h in (p.0, p.1)
+
+pub nothing_in : {A : Type 0} (xs : List A) → length xs ≡ 0 → xs ≡ []
+nothing_in [] h = refl
+nothing_in (x ∷ xs) h = absurd (omega (arith, h))
+
+pub front-short : {A : Type 0} (xs : List A) → length xs ≤ 0 → front_of 1 xs ≡ xs
+front-short [] h = refl
+front-short (x ∷ xs) h = absurd (omega (arith, h))

@@ -1,7 +1,16 @@
 -- What fits of an expression's operands, from the fit of the whole.
-use Rattle.std.proofs.Common.{◌≡◌, ◌++◌, List, ◌∷◌, Bool, true, sym, ap, ◌∙◌, subst}
+use Rattle.std.proofs.Common.{◌≡◌, ◌++◌, ℤ, List, ◌∷◌, Option, Some, None, Bool, true, sym, ap, ◌∙◌, subst}
+use Rattle.std.specs.Prelude.{IsSomeAnd, slice_get}
 use Rattle.std.proofs.lemmas.Bool.{and_parts}
 use Rattle.std.proofs.lemmas.List.Folds.{list_all-append}
+use Rattle.bt_core.specs.declared.map.MapDecl.{MapDecl}
+use Rattle.bt_core.specs.declared.map.MapId.{MapId}
+use Rattle.bt_core.specs.declared.map.MapKind.{MapKind}
+use Rattle.bt_core.specs.declared.map.MapKind.TheVariants.{Ints}
+use Rattle.bt_core.specs.declared.value.Value.{Value}
+use Rattle.bt_core.specs.declared.value.Value.TheVariants.{Int}
+use Rattle.bt_core.specs.declared.step.Op.TheVariants.{Get, Set}
+use Rattle.bt_core.specs.Kinds.{IsOfKind, IsShared}
 use Rattle.bt_core.specs.declared.operator.BinOp.{BinOp}
 use Rattle.bt_core.specs.declared.operator.UnOp.{UnOp}
 use Rattle.typed_tree.specs.declared.expr.AnyExpr.TheOpen.{NumExpr-F, StrExpr-F}
@@ -12,8 +21,10 @@ use Rattle.typed_tree.specs.declared.expr.StrExpr.TheVariants as strs
 use Rattle.typed_tree.specs.Parts.{TreePart, Made, any_layer, num_layer, str_layer, num_parts, str_parts, Prefixed, Joined, Both, Either, Chosen, compared}
 use Rattle.typed_tree.specs.Scope.{fits, all_fit}
 use Rattle.walk_meaning.specs.declared.view.View.{View}
-use Rattle.walk_meaning.specs.Served.{Fits, IsServed, scope_in}
-use Rattle.bt_core.specs.Ports.{Fixed}
+use Rattle.walk_meaning.specs.Served.{Fits, IsServed, HoldsUnder, scope_in}
+use Rattle.bt_core.specs.Ports.{Fixed, Setting, CanStep}
+use Rattle.map_ops.specs.Holders.{part}
+use Rattle.map_ops.proofs.PartLaws.{part_below}
 
 pub num_same : (v : View) (x y : NumExpr) → x ≡ y → Fits v (num_parts y) → Fits v (num_parts x)
 num_same v x y is fit = subst (λ (e : NumExpr). Fits v (num_parts e)) (sym is) fit
@@ -24,6 +35,23 @@ str_same v x y is fit = subst (λ (e : StrExpr). Fits v (str_parts e)) (sym is) 
 -- what serves a view serves it as long as it stays the same
 pub served_still : {H : Type 0} (v : View) (before now : Fixed H) → now ≡ before → IsServed v before.setting → IsServed v now.setting
 served_still {H} v before now is served = subst (λ (f : Fixed H). IsServed v f.setting) (sym is) served
+
+-- what holds of a map's declaration gives what else does
+some_still : {A : Type 0} (o : Option A) (P Q : A → Type 0) → ((a : A) → P a → Q a) → IsSomeAnd o P → IsSomeAnd o Q
+some_still (Some a) P Q f p = f a p
+some_still None P Q f p = p
+
+module _ (s : Setting) (m : MapId) (key : List Value) (under : HoldsUnder s m Ints key) where
+  pub can_get : CanStep s (part m key) (Get key)
+  can_get = (part_below key, some_still (slice_get s.maps m.0) _ _ (λ (decl : MapDecl) p. (subst IsShared (sym p.0) p.1, p.2)) under)
+
+  pub can_set : (n : ℤ) → CanStep s (part m key) (Set key (Int n))
+  can_set n =
+      (part_below key, some_still (slice_get s.maps m.0) _ _ (λ (decl : MapDecl) p. (subst IsShared (sym p.0) p.1, (p.2, subst (λ (k : MapKind). IsOfKind k (Int n)) (sym p.0) tt))) under)
+
+-- and so does what a map holds a value under, by another name of the key
+pub held_still : {H : Type 0} (before now : Fixed H) (m : MapId) (key same : List Value) → now ≡ before → same ≡ key → HoldsUnder before.setting m Ints key → HoldsUnder now.setting m Ints same
+held_still {H} before now m key same kept is under = subst (λ (k : List Value). HoldsUnder now.setting m Ints k) (sym is) (subst (λ (f : Fixed H). HoldsUnder f.setting m Ints key) (sym kept) under)
 
 pub behind : (v : View) (p : TreePart) (a all : List TreePart) → all ≡ p ∷ a → Fits v all → Fits v a
 behind v p a all is fit = (and_parts (fits (scope_in v) p) (all_fit (scope_in v) a) (subst (λ (l : List TreePart). all_fit (scope_in v) l ≡ true) is fit)).1

@@ -1,14 +1,18 @@
-use Rattle.std.proofs.Common.{◌≡◌, ℕ, List, Option, ◌-◌, arith, rules, refl, sym, ap, subst, ◌∙◌, drop}
+use Rattle.std.proofs.Common.{◌≡◌, ℕ, List, Option, ◌-◌, arith, rules, refl, sym, ap, subst, ◌∙◌, drop, length, map, ◌<◌}
 use Rattle.typed_tree.specs.declared.expr.NumExpr.{NumExpr}
 use Rattle.typed_tree.specs.declared.stmt.TypedBlock.{TypedBlock}
 use Rattle.typed_tree.specs.declared.stmt.TypedStmt.{TypedStmt}
 use Rattle.typed_tree.specs.declared.stmt.TypedStmt.TheVariants as stmts
-use Rattle.bt_lower.specs.Needs.{Need, IsTooMuch, greater, stmt_need, tree_arms_need, tree_else_need}
+use Rattle.bt_lower.specs.Needs.{Need, IsTooMuch, greater, stmt_need, tree_arms_need, tree_else_need, all_need}
 use Rattle.bt_lower.proofs.Branches.{If-need}
 use Rattle.bt_lower.proofs.Rest.{Block-need}
-use Rattle.bt_lower.proofs.Needing.{frames_from, slots_from, arm_frame_from, arm_slots_from}
+use Rattle.bt_lower.proofs.Needing.{frames_from, slots_from, arm_frame_from, arm_slots_from, needs_from, arms_from}
 use Rattle.bt_lower.proofs.Forms as form
 use Rattle.bt_lower.proofs.Measured.{same, same-beyond, at-err, failed, part-first, part-second, part-else, part-unroll, greater-are, set-var-is, set-map-is, update-var-is, update-map-is, gather-is, step-is, printf-is, delete-is, while-is, unroll-is}
+use Rattle.std.proofs.lemmas.List.{drop_all}
+use Rattle.typed_tree.proofs.stmt.TypedBlock.TheLaws.{the_size as block_size}
+use Rattle.typed_tree.proofs.stmt.TypedStmt.TheLaws.{the_size as stmt_size}
+use Rattle.bt_lower.proofs.Sizes.{while_block, unroll_block}
 use Rattle.bt_lower.proofs.body_need.+body_need.Goals as goal
 
 -- an `if`, once all arms are summed up
@@ -202,3 +206,33 @@ unroll_need-returns-in_err-block-clause-need t c = failed _ _ c.from_residual.re
 
 pub unroll_need-returns-in_err-block-clause-beyond : goal.unroll_need-returns-in_err-block-clause-beyond
 unroll_need-returns-in_err-block-clause-beyond t c = at-err c.from_residual.result (part-unroll _ _ c.in_err-block.ensures.beyond refl)
+
+pub block_need-loop-left-init : goal.block_need-loop-left-init
+block_need-loop-left-init t c = record { within = omega arith; sums = c.figures-all.ensures ∙ ap (λ (l : List TypedStmt). all_need (map stmt_need l)) (sym (drop_all (length c.as_slice-stmts.result.now) c.as_slice-stmts.result.now (omega arith))) }
+
+pub block_need-loop-left-preserved : goal.block_need-loop-left-preserved
+block_need-loop-left-preserved t c =
+    record {
+      within = omega (arith, c.loop-left.invariant.within);
+      sums = needs_from stmt_need c.as_slice-stmts.result.now _ c.loop-left.left _ _ _ _ (omega arith) (omega (arith, c.loop-left.invariant.within)) c.index-stmts-left.is c.loop-left.invariant.sums c.in_ok-one.ensures.need c.in_ok-all.ensures.greater;
+    }
+
+pub stmt_need-loop-left-init : goal.stmt_need-loop-left-init
+stmt_need-loop-left-init t c = record { within = omega arith; sums = (c.figures-all).ensures ∙ ap tree_arms_need (sym (drop_all (length c.as_slice-arms.result.now) c.as_slice-arms.result.now (omega arith))) }
+
+pub stmt_need-loop-left-preserved : goal.stmt_need-loop-left-preserved
+stmt_need-loop-left-preserved t c =
+    record {
+      within = omega (arith, c.loop-left.invariant.within);
+      sums = arms_from c.as_slice-arms.result.now _ c.loop-left.left _ _ _ _ _ (omega arith) (omega (arith, c.loop-left.invariant.within)) c.index-arms-left-in-loop-left.is c.index-arms-left.is c.loop-left.invariant.sums c.in_ok-one-in-If.ensures.need c.in_ok-all-in-If.ensures.greater;
+    }
+
+pub stmt_need-tested_need-requires-in-While : goal.stmt_need-tested_need-requires-in-While
+stmt_need-tested_need-requires-in-While t c =
+    let below : block_size c.in-While.block < stmt_size c.args.s.now = while_block _ _ _ _ c.in-While.is in
+    omega (arith, below, c.decreases)
+
+pub stmt_need-unroll_need-requires : goal.stmt_need-unroll_need-requires
+stmt_need-unroll_need-requires t c =
+    let below : block_size c.in-Unroll.block < stmt_size c.args.s.now = unroll_block _ _ _ _ c.in-Unroll.is in
+    omega (arith, below, c.decreases)

@@ -1,10 +1,15 @@
-use Rattle.std.proofs.Common.{arith, refl, sym, ap, subst, ◌∙◌}
+use Rattle.std.proofs.Common.{arith, refl, sym, ap, subst, ◌∙◌, ◌<◌, List, length}
 use Rattle.bt_lower.specs.declared.need.Listed.{Listed}
 use Rattle.bt_lower.specs.declared.need.Valued.{Valued}
-use Rattle.bt_lower.specs.Needs.{IsTooMuch, listed, values_need, value_need, number_need, text_need, valued, under, more}
+use Rattle.bt_lower.specs.Needs.{IsTooMuch, listed, values_need, value_need, number_need, text_need, valued, under, more, Need}
 use Rattle.bt_lower.proofs.Measured.{same, same-beyond, roomy, at-least, at-err, failed, part-more, part-keys, part-first, part-second, greater-are, greater-room, leaf-is, text-leaf-is, keyed-is, either-is, part-left, part-right, part-test, part-one, part-other, beside-are, one-of-are, under-room, beside-room, test-room, one-room, step-map-is, unary-is, binary-is, compare-is, choose-is, text-map-is, text-choose-is}
-use Rattle.bt_lower.proofs.Needing.{frame_from, codes_from}
+use Rattle.bt_lower.proofs.Needing.{frame_from, codes_from, listed_from, room_before}
 use Rattle.bt_lower.proofs.Trees as tree
+use Rattle.typed_tree.proofs.expr.NumExpr.TheLaws.{the_size as num_size}
+use Rattle.typed_tree.proofs.expr.StrExpr.TheLaws.{the_size as str_size}
+use Rattle.bt_lower.proofs.Sizes.{binary_left, binary_right, choose_no, choose_test, choose_yes, compare_left, compare_right, text_choose_no, text_choose_test, text_choose_yes, unary_below}
+use Rattle.std.proofs.lemmas.List.{drop_all}
+use Rattle.typed_tree.specs.declared.expr.AnyExpr.{AnyExpr}
 use Rattle.bt_lower.proofs.need.+need.Goals as goal
 
 pub values_need-returns-in_err-value-clause-beyond : goal.values_need-returns-in_err-value-clause-beyond
@@ -315,3 +320,75 @@ text_need-returns-in-Comm-clause-beyond t c = tt
 
 pub text_need-returns-in-Comm-clause-need : goal.text_need-returns-in-Comm-clause-need
 text_need-returns-in-Comm-clause-need t c = c.figures-in-Comm.ensures ∙ sym (text-leaf-is _ c.in-Comm.is)
+
+pub number_need-number_need-requires : goal.number_need-number_need-requires
+number_need-number_need-requires t c =
+    let below : num_size c.get.result.now < num_size c.args.e.now = unary_below _ _ _ _ c.in-Unary.is c.get.ensures in
+    omega (arith, below, c.decreases)
+
+pub number_need-number_need-requires-in-Binary : goal.number_need-number_need-requires-in-Binary
+number_need-number_need-requires-in-Binary t c =
+    let below : num_size c.get-in-Binary.result.now < num_size c.args.e.now = binary_left _ _ _ _ _ c.in-Binary.is c.get-in-Binary.ensures in
+    omega (arith, below, c.decreases)
+
+pub number_need-number_need-requires-in-Binary-2 : goal.number_need-number_need-requires-in-Binary-2
+number_need-number_need-requires-in-Binary-2 t c =
+    let below : num_size (c.get-in-Binary-2).result.now < num_size c.args.e.now = binary_right _ _ _ _ _ c.in-Binary.is (c.get-in-Binary-2).ensures in
+    omega (arith, below, c.decreases)
+
+pub number_need-text_need-requires : goal.number_need-text_need-requires
+number_need-text_need-requires t c =
+    let below : str_size c.get-in-Compare.result.now < num_size c.args.e.now = compare_left _ _ _ _ _ c.in-Compare.is c.get-in-Compare.ensures in
+    omega (arith, below, c.decreases)
+
+pub number_need-text_need-requires-in-Compare : goal.number_need-text_need-requires-in-Compare
+number_need-text_need-requires-in-Compare t c =
+    let below : str_size (c.get-in-Compare-2).result.now < num_size c.args.e.now = compare_right _ _ _ _ _ c.in-Compare.is (c.get-in-Compare-2).ensures in
+    omega (arith, below, c.decreases)
+
+pub number_need-number_need-requires-in-Choose : goal.number_need-number_need-requires-in-Choose
+number_need-number_need-requires-in-Choose t c =
+    let below : num_size c.get-in-Choose.result.now < num_size c.args.e.now = choose_test _ _ _ _ _ c.in-Choose.is c.get-in-Choose.ensures in
+    omega (arith, below, c.decreases)
+
+pub number_need-number_need-requires-in-Choose-2 : goal.number_need-number_need-requires-in-Choose-2
+number_need-number_need-requires-in-Choose-2 t c =
+    let below : num_size (c.get-in-Choose-2).result.now < num_size c.args.e.now = choose_yes _ _ _ _ _ c.in-Choose.is (c.get-in-Choose-2).ensures in
+    omega (arith, below, c.decreases)
+
+pub number_need-number_need-requires-in-Choose-3 : goal.number_need-number_need-requires-in-Choose-3
+number_need-number_need-requires-in-Choose-3 t c =
+    let below : num_size (c.get-in-Choose-3).result.now < num_size c.args.e.now = choose_no _ _ _ _ _ c.in-Choose.is (c.get-in-Choose-3).ensures in
+    omega (arith, below, c.decreases)
+
+pub text_need-number_need-requires : goal.text_need-number_need-requires
+text_need-number_need-requires t c =
+    let below : num_size c.get.result.now < str_size c.args.e.now = text_choose_test _ _ _ _ _ c.in-Choose.is c.get.ensures in
+    omega (arith, below, c.decreases)
+
+pub text_need-text_need-requires : goal.text_need-text_need-requires
+text_need-text_need-requires t c =
+    let below : str_size (c.get-in-Choose).result.now < str_size c.args.e.now = text_choose_yes _ _ _ _ _ c.in-Choose.is (c.get-in-Choose).ensures in
+    omega (arith, below, c.decreases)
+
+pub text_need-text_need-requires-in-Choose : goal.text_need-text_need-requires-in-Choose
+text_need-text_need-requires-in-Choose t c =
+    let below : str_size (c.get-in-Choose-2).result.now < str_size c.args.e.now = text_choose_no _ _ _ _ _ c.in-Choose.is (c.get-in-Choose-2).ensures in
+    omega (arith, below, c.decreases)
+
+pub values_need-loop-left-init : goal.values_need-loop-left-init
+values_need-loop-left-init t c =
+    let none = ap (λ (n : Need). let l : Listed = record { sizes = 0; need = n } in l) c.figures.ensures in
+    record {
+      within = omega arith;
+      sums = none ∙ ap (λ (l : List AnyExpr). listed (values_need l)) (sym (drop_all (length c.args.es.now) c.args.es.now (omega arith)));
+      room = omega arith;
+    }
+
+pub values_need-loop-left-preserved : goal.values_need-loop-left-preserved
+values_need-loop-left-preserved t c =
+    record {
+      within = omega (arith, c.loop-left.invariant.within);
+      sums = listed_from c.args.es.now _ c.loop-left.left _ _ _ _ (omega arith) (omega (arith, c.loop-left.invariant.within)) c.index-es-left.is c.loop-left.invariant.sums c.in_ok-value.ensures.need c.in_ok-all.ensures.before;
+      room = room_before _ _ _ c.in_ok-all.ensures.before c.loop-left.invariant.room;
+    }

@@ -1,4 +1,4 @@
-use Rattle.std.proofs.Common.{◌∙◌, sym, ap, refl, arith, List, SFits, w64, rules}
+use Rattle.std.proofs.Common.{◌∙◌, sym, ap, refl, arith, List, SFits, w64, rules, ◌≡◌, [], subst, ◌<◌}
 use Rattle.std.proofs.lemmas.Int.{to_z-of_z}
 use Rattle.typed_tree.specs.declared.expr.AnyExpr.{AnyExpr}
 use Rattle.typed_tree.specs.declared.stmt.TypedBlock.{TypedBlock}
@@ -17,6 +17,13 @@ use Rattle.bt_lower.proofs.Stmts.{Lowers-into}
 use Rattle.bt_lower.proofs.Unrolled.{unroll-steps}
 use Rattle.bt_lower.proofs.Whiled.{T-While}
 use Rattle.bt_lower.proofs.Measured.{failed, on-failed}
+use Rattle.typed_tree.specs.declared.expr.NumExpr.{NumExpr}
+use Rattle.typed_tree.specs.declared.stmt.TypedStmt.{TypedStmt}
+use Rattle.bt_lower.specs.Lowers.{LowersStatement}
+use Rattle.bt_lower.proofs.Lists.{nothing_in}
+use Rattle.typed_tree.proofs.stmt.TypedBlock.TheLaws.{the_size as block_size}
+use Rattle.typed_tree.proofs.stmt.TypedStmt.TheLaws.{the_size as stmt_size}
+use Rattle.bt_lower.proofs.Sizes.{while_block, unroll_block}
 use Rattle.bt_lower.proofs.stmt.+stmt.Goals as goal
 
 pub lower_stmt-returns-in-SetVar : goal.lower_stmt-returns-in-SetVar
@@ -199,3 +206,19 @@ lower_while-returns-in_err-lower_test t c = on-failed _ _ c.from_residual-in_err
 
 pub lower_while-returns-in_err-turn : goal.lower_while-returns-in_err-turn
 lower_while-returns-in_err-turn t c = on-failed _ _ c.from_residual-in_err-turn.result c.from_residual-in_err-turn.ensures.1
+
+pub lower_if-returns-then-left-eq0 : goal.lower_if-returns-then-left-eq0
+lower_if-returns-then-left-eq0 t c =
+    let none = sym c.as_slice-arms.ensures ∙ nothing_in c.as_slice-arms.result.now c.if-left-eq0.true in
+    let is : c.args.s.now ≡ stmts.If [] c.in-If.otherwise = c.in-If.is ∙ ap (λ (arms : List (NumExpr × TypedBlock)). stmts.If arms c.in-If.otherwise) none in
+    at-ok c.lower_only_else.result c.lower_only_else.ensures (λ made arms o same. subst (λ (s : TypedStmt). LowersStatement s c.args.way c.args.code.now c.lower_only_else.new.code) (sym is) made)
+
+pub lower_stmt-lower_while-requires : goal.lower_stmt-lower_while-requires
+lower_stmt-lower_while-requires t c =
+    let below : block_size c.in-While.block < stmt_size c.args.s.now = while_block _ _ _ _ c.in-While.is in
+    omega (arith, below, c.decreases)
+
+pub lower_stmt-lower_unroll-requires : goal.lower_stmt-lower_unroll-requires
+lower_stmt-lower_unroll-requires t c =
+    let below : block_size c.in-Unroll.block < stmt_size c.args.s.now = unroll_block _ _ _ _ c.in-Unroll.is in
+    omega (arith, below, c.decreases)

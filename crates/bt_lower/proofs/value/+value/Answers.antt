@@ -1,14 +1,19 @@
-use Rattle.std.proofs.Common.{length, ◌∙◌, ap, arith, SFits, w64, rules, refl, subst}
+use Rattle.std.proofs.Common.{length, ◌∙◌, ap, arith, SFits, w64, rules, refl, subst, ◌<◌, ◌≡◌, ℕ, drop}
 use Rattle.std.proofs.lemmas.Int.{to_z-of_z}
 use Rattle.typed_tree.specs.Parts.{key_shapes}
 use Rattle.ir_code.specs.declared.instr.Instr.TheVariants as i
 use Rattle.bt_core.specs.declared.value.Value.TheVariants.{Str}
 use Rattle.bt_lower.specs.Code.{pushed}
-use Rattle.bt_lower.specs.Lowers.{LowersNumber, all_made}
+use Rattle.bt_lower.specs.Lowers.{LowersNumber, all_made, LowersList}
 use Rattle.bt_lower.specs.declared.code.Code.{Code}
 use Rattle.bt_lower.proofs.Arms.{A-Num, A-Str, N-Number, N-Builtin, N-Field, N-Var, N-Map, N-Agg, N-StepVar, N-StepMap, N-Unary, N-Binary, N-Compare, N-AndThen, N-OrElse, N-Choose, S-Text, S-Comm, S-Field, S-Var, S-Map, S-Choose, List-start, List-next, Tested-arm, at-ok, with-number}
 use Rattle.bt_lower.proofs.Choices.{Lowers-arm}
 use Rattle.bt_lower.proofs.Measured.{failed as if-failed, on-failed as failed}
+use denote.Param.Weighed.{most}
+use Rattle.typed_tree.proofs.expr.AnyExpr.TheLaws.{the_size as any_size}
+use Rattle.typed_tree.proofs.expr.NumExpr.TheLaws.{the_size as num_size}
+use Rattle.typed_tree.proofs.expr.StrExpr.TheLaws.{the_size as str_size}
+use Rattle.bt_lower.proofs.Sizes.{agg_keys, and_left, and_right, binary_left, binary_right, choose_no, choose_test, choose_yes, compare_left, compare_right, map_keys, or_left, or_right, step_map_keys, text_choose_no, text_choose_test, text_choose_yes, text_map_keys, unary_below}
 use Rattle.bt_lower.proofs.value.+value.Goals as goal
 
 pub lower_number-returns-in-Number : goal.lower_number-returns-in-Number
@@ -205,3 +210,103 @@ lower_value-returns-in-Num t c = at-ok c.lower_number.result c.lower_number.ensu
 
 pub lower_value-returns-in-Str : goal.lower_value-returns-in-Str
 lower_value-returns-in-Str t c = at-ok c.lower_text.result c.lower_text.ensures (A-Str _ _ _ _ _ c.in-Str.is refl)
+
+pub lower_number-lower_number-requires : goal.lower_number-lower_number-requires
+lower_number-lower_number-requires t c =
+    let below : num_size c.get.result.now < num_size c.args.e.now = unary_below _ _ _ _ c.in-Unary.is c.get.ensures in
+    omega (arith, below, c.decreases)
+
+pub lower_number-lower_number-requires-in-Binary : goal.lower_number-lower_number-requires-in-Binary
+lower_number-lower_number-requires-in-Binary t c =
+    let below : num_size c.get-in-Binary.result.now < num_size c.args.e.now = binary_right _ _ _ _ _ c.in-Binary.is c.get-in-Binary.ensures in
+    omega (arith, below, c.decreases)
+
+pub lower_number-lower_number-requires-in-Binary-2 : goal.lower_number-lower_number-requires-in-Binary-2
+lower_number-lower_number-requires-in-Binary-2 t c =
+    let below : num_size (c.get-in-Binary-2).result.now < num_size c.args.e.now = binary_left _ _ _ _ _ c.in-Binary.is (c.get-in-Binary-2).ensures in
+    omega (arith, below, c.decreases)
+
+pub lower_number-lower_text-requires : goal.lower_number-lower_text-requires
+lower_number-lower_text-requires t c =
+    let below : str_size c.get-in-Compare.result.now < num_size c.args.e.now = compare_right _ _ _ _ _ c.in-Compare.is c.get-in-Compare.ensures in
+    omega (arith, below, c.decreases)
+
+pub lower_number-lower_text-requires-in-Compare : goal.lower_number-lower_text-requires-in-Compare
+lower_number-lower_text-requires-in-Compare t c =
+    let below : str_size (c.get-in-Compare-2).result.now < num_size c.args.e.now = compare_left _ _ _ _ _ c.in-Compare.is (c.get-in-Compare-2).ensures in
+    omega (arith, below, c.decreases)
+
+pub lower_number-tested_arm-requires : goal.lower_number-tested_arm-requires
+lower_number-tested_arm-requires t c =
+    let below : num_size c.get-in-AndThen.result.now < num_size c.args.e.now = and_right _ _ _ _ c.in-AndThen.is c.get-in-AndThen.ensures in
+    omega (arith, below, c.decreases)
+
+pub lower_number-lower_test-requires : goal.lower_number-lower_test-requires
+lower_number-lower_test-requires t c =
+    let below : num_size (c.get-in-AndThen-2).result.now < num_size c.args.e.now = and_left _ _ _ _ c.in-AndThen.is (c.get-in-AndThen-2).ensures in
+    omega (arith, below, c.decreases)
+
+pub lower_number-tested_arm-requires-in-OrElse : goal.lower_number-tested_arm-requires-in-OrElse
+lower_number-tested_arm-requires-in-OrElse t c =
+    let below : num_size c.get-in-OrElse.result.now < num_size c.args.e.now = or_right _ _ _ _ c.in-OrElse.is c.get-in-OrElse.ensures in
+    omega (arith, below, c.decreases)
+
+pub lower_number-lower_test-requires-in-OrElse : goal.lower_number-lower_test-requires-in-OrElse
+lower_number-lower_test-requires-in-OrElse t c =
+    let below : num_size (c.get-in-OrElse-2).result.now < num_size c.args.e.now = or_left _ _ _ _ c.in-OrElse.is (c.get-in-OrElse-2).ensures in
+    omega (arith, below, c.decreases)
+
+pub lower_number-lower_number_arm-requires : goal.lower_number-lower_number_arm-requires
+lower_number-lower_number_arm-requires t c =
+    let below : num_size c.get-in-Choose.result.now < num_size c.args.e.now = choose_no _ _ _ _ _ c.in-Choose.is c.get-in-Choose.ensures in
+    omega (arith, below, c.decreases)
+
+pub lower_number-lower_number_arm-requires-in-Choose : goal.lower_number-lower_number_arm-requires-in-Choose
+lower_number-lower_number_arm-requires-in-Choose t c =
+    let below : num_size (c.get-in-Choose-2).result.now < num_size c.args.e.now = choose_yes _ _ _ _ _ c.in-Choose.is (c.get-in-Choose-2).ensures in
+    omega (arith, below, c.decreases)
+
+pub lower_number-lower_test-requires-in-Choose : goal.lower_number-lower_test-requires-in-Choose
+lower_number-lower_test-requires-in-Choose t c =
+    let below : num_size (c.get-in-Choose-3).result.now < num_size c.args.e.now = choose_test _ _ _ _ _ c.in-Choose.is (c.get-in-Choose-3).ensures in
+    omega (arith, below, c.decreases)
+
+pub lower_text-lower_text_arm-requires : goal.lower_text-lower_text_arm-requires
+lower_text-lower_text_arm-requires t c =
+    let below : str_size c.get.result.now < str_size c.args.e.now = text_choose_no _ _ _ _ _ c.in-Choose.is c.get.ensures in
+    omega (arith, below, c.decreases)
+
+pub lower_text-lower_text_arm-requires-in-Choose : goal.lower_text-lower_text_arm-requires-in-Choose
+lower_text-lower_text_arm-requires-in-Choose t c =
+    let below : str_size (c.get-in-Choose).result.now < str_size c.args.e.now = text_choose_yes _ _ _ _ _ c.in-Choose.is (c.get-in-Choose).ensures in
+    omega (arith, below, c.decreases)
+
+pub lower_text-lower_test-requires : goal.lower_text-lower_test-requires
+lower_text-lower_test-requires t c =
+    let below : num_size (c.get-in-Choose-2).result.now < str_size c.args.e.now = text_choose_test _ _ _ _ _ c.in-Choose.is (c.get-in-Choose-2).ensures in
+    omega (arith, below, c.decreases)
+
+pub lower_number-lower_values-requires : goal.lower_number-lower_values-requires
+lower_number-lower_values-requires t c =
+    let below : most any_size (c.as_slice-in-Map).result.now < num_size c.args.e.now = map_keys _ _ _ _ c.in-Map.is (c.as_slice-in-Map).ensures in
+    omega (arith, below, c.decreases)
+
+pub lower_number-lower_values-requires-in-Agg : goal.lower_number-lower_values-requires-in-Agg
+lower_number-lower_values-requires-in-Agg t c =
+    let below : most any_size (c.as_slice-in-Agg-2).result.now < num_size c.args.e.now = agg_keys _ _ _ _ c.in-Agg.is (c.as_slice-in-Agg-2).ensures in
+    omega (arith, below, c.decreases)
+
+pub lower_number-lower_values-requires-in-StepMap : goal.lower_number-lower_values-requires-in-StepMap
+lower_number-lower_values-requires-in-StepMap t c =
+    let below : most any_size (c.as_slice-in-StepMap-2).result.now < num_size c.args.e.now = step_map_keys _ _ _ _ _ _ c.in-StepMap.is (c.as_slice-in-StepMap-2).ensures in
+    omega (arith, below, c.decreases)
+
+pub lower_text-lower_values-requires : goal.lower_text-lower_values-requires
+lower_text-lower_values-requires t c =
+    let below : most any_size (c.as_slice-in-Map).result.now < str_size c.args.e.now = text_map_keys _ _ _ _ c.in-Map.is (c.as_slice-in-Map).ensures in
+    omega (arith, below, c.decreases)
+
+pub lower_values-returns : goal.lower_values-returns
+lower_values-returns t c =
+    let done : c.loop-left.left ≡ 0 = omega (arith, c.loop-left-test.false) in
+    subst (λ (k : ℕ). LowersList (drop k c.args.es.now) c.args.code.now c.loop-left.code) done c.loop-left.invariant.lowered

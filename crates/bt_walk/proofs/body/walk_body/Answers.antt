@@ -28,3 +28,9 @@ returns-in_err-flow-clause-performed g c =
 pub returns-clause-performed : goal.returns-clause-performed
 returns-clause-performed g c =
     body_done c.args.body.now c.args.context.now c.args.payload.now c.args.actor c.args.actors _ _ _ (c.in_ok-frame.ensures ∙ ap first_frame c.as_slice.ensures) _ _ _ c.in_ok-flow.ensures.walked c.ending_of.ensures
+
+pub returns-in_err-flow-clause-kept : goal.returns-in_err-flow-clause-kept
+returns-in_err-flow-clause-kept g c = c.in_err-flow.ensures.kept
+
+pub returns-clause-kept : goal.returns-clause-kept
+returns-clause-kept g c = c.in_ok-flow.ensures.kept

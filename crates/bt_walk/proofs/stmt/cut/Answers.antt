@@ -10,3 +10,6 @@ returns-in_err-tell-clause-made g c scene frame =
 
 pub returns-clause-made : goal.returns-clause-made
 returns-clause-made g c scene frame = (Whole-next _ _ _ _ _ _ _ _ (Lifted-done _ scene frame _ _ _ c.in_ok-tell.ensures.performed) _ _ (Given-done _ _ _ _ _ _ refl refl))
+
+pub returns-clause-kept : goal.returns-clause-kept
+returns-clause-kept g c = c.in_ok-tell.ensures.kept

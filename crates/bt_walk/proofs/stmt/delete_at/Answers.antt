@@ -1,4 +1,4 @@
-use Rattle.std.proofs.Common.{refl}
+use Rattle.std.proofs.Common.{refl, ◌∙◌}
 use Rattle.std.proofs.lemmas.Result.{err_from_is_err_and}
 use Rattle.typed_tree.specs.Parts.{key_shapes}
 use Rattle.walk_meaning.specs.Served.{all_made}
@@ -28,3 +28,24 @@ returns-in_err-delete-clause-walked g c =
 
 pub returns-clause-walked : goal.returns-clause-walked
 returns-clause-walked g c = (Whole-next _ _ _ _ _ _ _ _ c.in_ok-key.ensures.walked _ _ (Whole-next _ _ _ _ _ _ _ _ (c.in_ok-delete.ensures.made _ _) _ _ (Given-done _ _ _ _ _ _ refl refl)))
+
+pub returns-in_err-key-clause-kept : goal.returns-in_err-key-clause-kept
+returns-in_err-key-clause-kept g c = c.in_err-key.ensures.kept
+
+pub returns-in_err-delete-clause-kept : goal.returns-in_err-delete-clause-kept
+returns-in_err-delete-clause-kept g c = c.in_err-delete.ensures.kept ∙ c.in_ok-key.ensures.kept
+
+pub returns-clause-kept : goal.returns-clause-kept
+returns-clause-kept g c = c.in_ok-delete.ensures.kept ∙ c.in_ok-key.ensures.kept
+
+pub returns-in_err-key-clause-turns : goal.returns-in_err-key-clause-turns
+returns-in_err-key-clause-turns g c = c.in_err-key.ensures.turns
+
+pub returns-in_err-delete-clause-turns : goal.returns-in_err-delete-clause-turns
+returns-in_err-delete-clause-turns g c = c.in_ok-key.ensures.turns
+
+pub returns-clause-turns : goal.returns-clause-turns
+returns-clause-turns g c = c.in_ok-key.ensures.turns
+
+pub key-requires-clause-served : goal.key-requires-clause-served
+key-requires-clause-served g c = c.requires.served

@@ -1,4 +1,4 @@
-use Rattle.std.proofs.Common.{pos, refl, SFits, w64, rules}
+use Rattle.std.proofs.Common.{pos, refl, SFits, w64, rules, ◌∙◌}
 use Rattle.std.proofs.lemmas.Int.{to_z-of_z}
 use Rattle.std.proofs.lemmas.Result.{err_from_is_err_and}
 use Rattle.typed_tree.specs.Parts.{key_shapes}
@@ -7,6 +7,7 @@ use Rattle.bt_walk.proofs.Binds.{Part-first, Part-next, Whole-next, Given-done, 
 use Rattle.walk_meaning.proofs.Declared.{gathering, add_can}
 use Rattle.walk_meaning.proofs.TreeParts.{gather_head}
 use Rattle.bt_walk.proofs.Statements.{gather_split}
+use Rattle.bt_walk.proofs.Fitting.{served_still}
 use Rattle.bt_walk.proofs.stmt.gather.Goals as goal
 
 pub key-requires-clause-few : goal.key-requires-clause-few
@@ -46,3 +47,33 @@ key-requires-clause-fits g c = (gather_split c.args.view.now c.args.map (all_mad
 
 pub number_or_one-requires-clause-fits : goal.number_or_one-requires-clause-fits
 number_or_one-requires-clause-fits g c = (gather_split c.args.view.now c.args.map (all_made c.args.keys.now) c.args.kind c.args.number.now c.requires.fits).1
+
+pub returns-in_err-key-clause-kept : goal.returns-in_err-key-clause-kept
+returns-in_err-key-clause-kept g c = c.in_err-key.ensures.kept
+
+pub returns-in_err-n-clause-kept : goal.returns-in_err-n-clause-kept
+returns-in_err-n-clause-kept g c = c.in_err-n.ensures.kept ∙ c.in_ok-key.ensures.kept
+
+pub returns-in_err-tell-clause-kept : goal.returns-in_err-tell-clause-kept
+returns-in_err-tell-clause-kept g c = c.in_err-tell.ensures.kept ∙ (c.in_ok-n.ensures.kept ∙ c.in_ok-key.ensures.kept)
+
+pub returns-clause-kept : goal.returns-clause-kept
+returns-clause-kept g c = c.in_ok-tell.ensures.kept ∙ (c.in_ok-n.ensures.kept ∙ c.in_ok-key.ensures.kept)
+
+pub returns-in_err-key-clause-turns : goal.returns-in_err-key-clause-turns
+returns-in_err-key-clause-turns g c = c.in_err-key.ensures.turns
+
+pub returns-in_err-n-clause-turns : goal.returns-in_err-n-clause-turns
+returns-in_err-n-clause-turns g c = c.in_err-n.ensures.turns ∙ c.in_ok-key.ensures.turns
+
+pub returns-in_err-tell-clause-turns : goal.returns-in_err-tell-clause-turns
+returns-in_err-tell-clause-turns g c = c.in_ok-n.ensures.turns ∙ c.in_ok-key.ensures.turns
+
+pub returns-clause-turns : goal.returns-clause-turns
+returns-clause-turns g c = c.in_ok-n.ensures.turns ∙ c.in_ok-key.ensures.turns
+
+pub key-requires-clause-served : goal.key-requires-clause-served
+key-requires-clause-served g c = c.requires.served
+
+pub number_or_one-requires-clause-served : goal.number_or_one-requires-clause-served
+number_or_one-requires-clause-served g c = served_still c.args.view.now _ _ c.in_ok-key.ensures.kept c.requires.served

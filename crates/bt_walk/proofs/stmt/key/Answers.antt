@@ -18,3 +18,21 @@ returns-clause-walked g c = rw (c.of.ensures, c.into_vec.ensures) c.in_ok-parts.
 
 pub returns-clause-shaped : goal.returns-clause-shaped
 returns-clause-shaped g c = rw (c.of.ensures, c.into_vec.ensures) c.in_ok-parts.ensures.shaped
+
+pub returns-in_err-parts-clause-kept : goal.returns-in_err-parts-clause-kept
+returns-in_err-parts-clause-kept g c = c.in_err-parts.ensures.kept
+
+pub returns-clause-kept : goal.returns-clause-kept
+returns-clause-kept g c = c.in_ok-parts.ensures.kept
+
+pub returns-in_err-parts-clause-turns : goal.returns-in_err-parts-clause-turns
+returns-in_err-parts-clause-turns g c = c.in_err-parts.ensures.turns
+
+pub returns-clause-turns : goal.returns-clause-turns
+returns-clause-turns g c = c.in_ok-parts.ensures.turns
+
+pub values-requires-clause-served : goal.values-requires-clause-served
+values-requires-clause-served g c = c.requires.served
+
+pub values-requires-clause-fits : goal.values-requires-clause-fits
+values-requires-clause-fits g c = c.requires.fits

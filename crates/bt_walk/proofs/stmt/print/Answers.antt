@@ -29,3 +29,9 @@ returns-clause-walked g c frame =
     let shown = simp to_z-of_z at c.in_ok-print_map.ensures.performed in
     let same = ap (λ (k : MapKind). printed k c.args.map c.args.top c.args.div c.args.view.now.actors) kind in
     Whole-next _ _ _ _ _ _ _ _ (Asked-done _ _ _ _ _ _ _ same shown) _ _ (Given-done _ _ _ _ _ _ refl refl)
+
+pub returns-in_err-print_map-clause-kept : goal.returns-in_err-print_map-clause-kept
+returns-in_err-print_map-clause-kept g c = c.in_err-print_map.ensures.kept
+
+pub returns-clause-kept : goal.returns-clause-kept
+returns-clause-kept g c = c.in_ok-print_map.ensures.kept

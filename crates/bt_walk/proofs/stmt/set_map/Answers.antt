@@ -1,4 +1,4 @@
-use Rattle.std.proofs.Common.{refl}
+use Rattle.std.proofs.Common.{refl, ◌∙◌}
 use Rattle.std.proofs.lemmas.Result.{err_from_is_err_and}
 use Rattle.typed_tree.specs.Parts.{made_of, key_shapes}
 use Rattle.walk_meaning.specs.Served.{all_made}
@@ -6,6 +6,7 @@ use Rattle.bt_walk.proofs.Binds.{Part-first, Part-next, Whole-next, Given-done, 
 use Rattle.walk_meaning.proofs.Declared.{valued, set_can}
 use Rattle.walk_meaning.proofs.TreeParts.{set_head}
 use Rattle.bt_walk.proofs.Statements.{set_split}
+use Rattle.bt_walk.proofs.Fitting.{served_still}
 use Rattle.bt_walk.proofs.stmt.set_map.Goals as goal
 
 pub key-requires-clause-few : goal.key-requires-clause-few
@@ -40,3 +41,33 @@ key-requires-clause-fits g c = (set_split c.args.view.now c.args.map (all_made c
 
 pub value-requires-clause-fits : goal.value-requires-clause-fits
 value-requires-clause-fits g c = (set_split c.args.view.now c.args.map (all_made c.args.keys.now) (made_of c.args.e.now) c.requires.fits).1
+
+pub returns-in_err-key-clause-kept : goal.returns-in_err-key-clause-kept
+returns-in_err-key-clause-kept g c = c.in_err-key.ensures.kept
+
+pub returns-in_err-value-clause-kept : goal.returns-in_err-value-clause-kept
+returns-in_err-value-clause-kept g c = c.in_err-value.ensures.kept ∙ c.in_ok-key.ensures.kept
+
+pub returns-in_err-set-clause-kept : goal.returns-in_err-set-clause-kept
+returns-in_err-set-clause-kept g c = c.in_err-set.ensures.kept ∙ (c.in_ok-value.ensures.kept ∙ c.in_ok-key.ensures.kept)
+
+pub returns-clause-kept : goal.returns-clause-kept
+returns-clause-kept g c = c.in_ok-set.ensures.kept ∙ (c.in_ok-value.ensures.kept ∙ c.in_ok-key.ensures.kept)
+
+pub returns-in_err-key-clause-turns : goal.returns-in_err-key-clause-turns
+returns-in_err-key-clause-turns g c = c.in_err-key.ensures.turns
+
+pub returns-in_err-value-clause-turns : goal.returns-in_err-value-clause-turns
+returns-in_err-value-clause-turns g c = c.in_err-value.ensures.turns ∙ c.in_ok-key.ensures.turns
+
+pub returns-in_err-set-clause-turns : goal.returns-in_err-set-clause-turns
+returns-in_err-set-clause-turns g c = c.in_ok-value.ensures.turns ∙ c.in_ok-key.ensures.turns
+
+pub returns-clause-turns : goal.returns-clause-turns
+returns-clause-turns g c = c.in_ok-value.ensures.turns ∙ c.in_ok-key.ensures.turns
+
+pub key-requires-clause-served : goal.key-requires-clause-served
+key-requires-clause-served g c = c.requires.served
+
+pub value-requires-clause-served : goal.value-requires-clause-served
+value-requires-clause-served g c = served_still c.args.view.now _ _ c.in_ok-key.ensures.kept c.requires.served

@@ -10,3 +10,21 @@ returns-in_err-number-clause-walked g c =
 
 pub returns-clause-walked : goal.returns-clause-walked
 returns-clause-walked g c = (Whole-next _ _ _ _ _ _ _ _ c.in_ok-number.ensures.walked _ _ (Given-done _ _ _ _ _ _ refl refl))
+
+pub returns-in_err-number-clause-kept : goal.returns-in_err-number-clause-kept
+returns-in_err-number-clause-kept g c = c.in_err-number.ensures.kept
+
+pub returns-clause-kept : goal.returns-clause-kept
+returns-clause-kept g c = c.in_ok-number.ensures.kept
+
+pub returns-in_err-number-clause-turns : goal.returns-in_err-number-clause-turns
+returns-in_err-number-clause-turns g c = c.in_err-number.ensures.turns
+
+pub returns-clause-turns : goal.returns-clause-turns
+returns-clause-turns g c = c.in_ok-number.ensures.turns
+
+pub number-requires-clause-served : goal.number-requires-clause-served
+number-requires-clause-served g c = c.requires.served
+
+pub number-requires-clause-fits : goal.number-requires-clause-fits
+number-requires-clause-fits g c = c.requires.fits

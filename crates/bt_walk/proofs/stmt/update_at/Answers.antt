@@ -5,6 +5,7 @@ use Rattle.bt_core.specs.Arithmetic.{binary_value}
 use Rattle.bt_core.proofs.InteractionLaws.{Performed-none}
 use Rattle.map_ops.specs.Values.{number_of}
 use Rattle.bt_walk.proofs.Binds.{Part-first, Part-next, Whole-next, Given-done, Lifted-done, Lifted-begun, Stopped}
+use Rattle.bt_walk.proofs.Fitting.{can_get, can_set}
 use Rattle.bt_walk.proofs.stmt.update_at.Goals as goal
 
 pub returns-in_err-again-clause-made : goal.returns-in_err-again-clause-made
@@ -42,3 +43,21 @@ returns-clause-made g c scene frame =
     let put = simp to_z-of_z at c.in_ok-set.ensures.made in
     let done = rw new at put in
     (Whole-next _ _ _ _ _ _ _ _ (Lifted-done _ scene frame _ _ _ got) _ _ (Whole-next _ _ _ _ _ _ _ _ (done scene frame) _ _ (Given-done _ _ _ _ _ _ refl refl)))
+
+pub get-requires : goal.get-requires
+get-requires g c = rw c.in_ok-again.ensures (can_get (g.P.Port.fixed c.args.port.now).setting c.args.map c.args.key c.requires)
+
+pub set-requires : goal.set-requires
+set-requires g c = rw c.in_ok-value.ensures.kept (can_set (g.P.Port.fixed c.args.port.now).setting c.args.map c.args.key c.requires _)
+
+pub returns-in_err-again-clause-kept : goal.returns-in_err-again-clause-kept
+returns-in_err-again-clause-kept g c = refl
+
+pub returns-in_err-value-clause-kept : goal.returns-in_err-value-clause-kept
+returns-in_err-value-clause-kept g c = c.in_err-value.ensures.kept
+
+pub returns-in_err-set-clause-kept : goal.returns-in_err-set-clause-kept
+returns-in_err-set-clause-kept g c = c.in_err-set.ensures.kept ∙ c.in_ok-value.ensures.kept
+
+pub returns-clause-kept : goal.returns-clause-kept
+returns-clause-kept g c = c.in_ok-set.ensures.kept ∙ c.in_ok-value.ensures.kept

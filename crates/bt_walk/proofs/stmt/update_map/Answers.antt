@@ -1,4 +1,4 @@
-use Rattle.std.proofs.Common.{SFits, w64, rules}
+use Rattle.std.proofs.Common.{SFits, w64, rules, ◌∙◌}
 use Rattle.std.proofs.lemmas.Int.{to_z-of_z}
 use Rattle.std.proofs.lemmas.Result.{err_from_is_err_and}
 use Rattle.bt_core.specs.declared.map.Shape.TheVariants as shapes
@@ -8,6 +8,7 @@ use Rattle.bt_walk.proofs.Binds.{Part-first, Part-next, Walked-next, Stopped}
 use Rattle.walk_meaning.proofs.Declared.{valued, held}
 use Rattle.walk_meaning.proofs.TreeParts.{update_head}
 use Rattle.bt_walk.proofs.Statements.{update_split}
+use Rattle.bt_walk.proofs.Fitting.{served_still}
 use Rattle.bt_walk.proofs.stmt.update_map.Goals as goal
 
 pub key-requires-clause-few : goal.key-requires-clause-few
@@ -40,3 +41,27 @@ key-requires-clause-fits g c = (update_split c.args.view.now c.args.op c.args.ma
 
 pub number-requires-clause-fits : goal.number-requires-clause-fits
 number-requires-clause-fits g c = (update_split c.args.view.now c.args.op c.args.map (all_made c.args.keys.now) (num_parts c.args.e.now) c.requires.fits).1
+
+pub returns-in_err-key-clause-kept : goal.returns-in_err-key-clause-kept
+returns-in_err-key-clause-kept g c = c.in_err-key.ensures.kept
+
+pub returns-in_err-b-clause-kept : goal.returns-in_err-b-clause-kept
+returns-in_err-b-clause-kept g c = c.in_err-b.ensures.kept ∙ c.in_ok-key.ensures.kept
+
+pub returns-clause-kept : goal.returns-clause-kept
+returns-clause-kept g c = c.update_at.ensures.kept ∙ (c.in_ok-b.ensures.kept ∙ c.in_ok-key.ensures.kept)
+
+pub returns-in_err-key-clause-turns : goal.returns-in_err-key-clause-turns
+returns-in_err-key-clause-turns g c = c.in_err-key.ensures.turns
+
+pub returns-in_err-b-clause-turns : goal.returns-in_err-b-clause-turns
+returns-in_err-b-clause-turns g c = c.in_err-b.ensures.turns ∙ c.in_ok-key.ensures.turns
+
+pub returns-clause-turns : goal.returns-clause-turns
+returns-clause-turns g c = c.in_ok-b.ensures.turns ∙ c.in_ok-key.ensures.turns
+
+pub key-requires-clause-served : goal.key-requires-clause-served
+key-requires-clause-served g c = c.requires.served
+
+pub number-requires-clause-served : goal.number-requires-clause-served
+number-requires-clause-served g c = served_still c.args.view.now _ _ c.in_ok-key.ensures.kept c.requires.served

@@ -25,3 +25,9 @@ returns-clause-walked g c frame =
     let kind : c.kind_in_body-kind.result ≡ kind_in_body c.args.map c.args.view.now.body.now.maps = c.kind_in_body-kind.ensures ∙ ap (kind_in_body c.args.map) c.as_slice.ensures in
     let same = ap (λ (k : MapKind). swept Zero k c.args.map c.args.view.now.actors) kind in
     Whole-next _ _ _ _ _ _ _ _ (Asked-done _ _ _ _ _ _ _ same c.in_ok-ask_each.ensures.performed) _ _ (Given-done _ _ _ _ _ _ refl refl)
+
+pub returns-in_err-ask_each-clause-kept : goal.returns-in_err-ask_each-clause-kept
+returns-in_err-ask_each-clause-kept g c = c.in_err-ask_each.ensures.kept
+
+pub returns-clause-kept : goal.returns-clause-kept
+returns-clause-kept g c = c.in_ok-ask_each.ensures.kept

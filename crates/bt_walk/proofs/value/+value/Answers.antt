@@ -1,4 +1,4 @@
-use Rattle.std.proofs.Common.{◌≤◌, ℤ, refl, sym, ap, subst, ◌∙◌, SFits, w64, rules, arith}
+use Rattle.std.proofs.Common.{◌≡◌, ◌<◌, ◌≤◌, ℤ, refl, sym, ap, subst, ◌∙◌, SFits, w64, rules, arith}
 use Rattle.std.proofs.lemmas.Int.{to_z-of_z}
 use Rattle.std.proofs.lemmas.Result.{err_from_is_err_and}
 use Rattle.bt_core.specs.declared.map.Shape.TheVariants as shapes
@@ -14,16 +14,18 @@ use Rattle.walk_meaning.proofs.Declared.{shared, summing, summed_here, valued, f
 use Rattle.typed_tree.proofs.Summed.{summed_there}
 use Rattle.walk_meaning.proofs.TreeParts.{num_field_parts, str_field_parts, step_map_parts, one_fits, one_size}
 use Rattle.typed_tree.proofs.expr.AnyExpr.TheLaws.{the_size}
+use Rattle.typed_tree.proofs.expr.NumExpr.TheLaws.{the_size as num_size}
+use Rattle.typed_tree.proofs.expr.StrExpr.TheLaws.{the_size as str_size}
+use Rattle.walk_meaning.specs.declared.flow.Frame.{Frame}
+use Rattle.bt_walk.proofs.Sizes.{unary_below, binary_left, binary_right, compare_left, compare_right, and_left, and_right, or_left, or_right, choose_test, choose_yes, choose_no, text_choose_test, text_choose_yes, text_choose_no}
 use denote.Param.Weighed.{most}
-use Rattle.bt_walk.proofs.Gathers.{gathers-start, gathers-stop, gathers-next, gathers-drop, gathers-end, shapes-next}
+use Rattle.bt_walk.proofs.Gathers.{gathers-start, gathers-stop, gathers-next, gathers-drop, gathers-end, shapes-next, shapes-end}
 use Rattle.walk_meaning.proofs.ExprDoes as does
 use Rattle.bt_walk.proofs.WalkedAs as told
-use Rattle.bt_walk.proofs.Fitting.{unary_fits, binary_fits, compare_fits, and_fits, or_fits, choose_fits, choose_text_fits, num_same, str_same, served_still}
-use Rattle.typed_tree.specs.declared.expr.NumExpr as nums
+use Rattle.bt_walk.proofs.Fitting.{held_still, unary_fits, binary_fits, compare_fits, and_fits, or_fits, choose_fits, choose_text_fits, num_same, str_same, served_still}
 use Rattle.typed_tree.specs.declared.expr.NumExpr.{NumExpr}
 use Rattle.typed_tree.specs.declared.expr.NumExpr.TheVariants as exprs
 use Rattle.walk_meaning.specs.Exprs.{number_does}
-use Rattle.typed_tree.specs.declared.expr.StrExpr as strs
 use Rattle.bt_walk.proofs.value.+value.Goals as goal
 
 pub number-int_field-requires-clause-inside : goal.number-int_field-requires-clause-inside
@@ -51,7 +53,7 @@ pub number-step_map-requires : goal.number-step_map-requires
 number-step_map-requires g t c =
     let found = valued c.args.view.now (g.P.Port.fixed c.args.port.now).setting c.in-StepMap.map (key_shapes (all_made c.in-StepMap.keys)) shapes.Int c.requires.served (step_map_parts c.args.view.now c.args.e.now _ _ _ _ c.in-StepMap.is c.requires.fits) in
     let shaped = rw c.as_slice-in-StepMap.ensures at c.in_ok-parts-in-StepMap.ensures.shaped in
-    rw (c.in_ok-parts-in-StepMap.ensures.kept, c.of-key.ensures, c.into_vec.ensures) (held _ _ _ shapes.Int _ found shaped)
+    held_still _ _ _ _ _ c.in_ok-parts-in-StepMap.ensures.kept (c.of-key.ensures ∙ c.into_vec.ensures) (held _ _ _ shapes.Int _ found shaped)
 
 pub number-returns-in_err-a-in-Unary-clause-walked : goal.number-returns-in_err-a-in-Unary-clause-walked
 number-returns-in_err-a-in-Unary-clause-walked g t c =
@@ -354,49 +356,79 @@ read_agg-returns-clause-walked g t c =
     (Walked-next _ _ _ _ _ _ _ _ c.in_ok-parts.ensures.walked _ _ _ (made _))
 
 pub number-number-requires : goal.number-number-requires
-number-number-requires g t c κs within = (search (rules, nums.the_lemmas), (within.0, (within.1, (c.requires.served, unary_fits c.args.view.now c.args.e.now c.requires.fits _ _ _ c.in-Unary.is c.get.ensures))))
+number-number-requires g t c κs within =
+    let below : num_size c.get.result.now < num_size c.args.e.now = unary_below _ _ _ _ c.in-Unary.is c.get.ensures in
+    (omega (arith, below, c.decreases), (within.0, (within.1, (c.requires.served, unary_fits c.args.view.now c.args.e.now c.requires.fits _ _ _ c.in-Unary.is c.get.ensures))))
 
 pub number_binary-number-requires : goal.number_binary-number-requires
-number_binary-number-requires g t c κs within = (search (rules, nums.the_lemmas), (within.0, (within.1, (c.requires.served, num_same c.args.view.now _ _ c.get.ensures ((binary_fits c.args.view.now (exprs.Binary c.args.op c.args.left.now c.args.right.now) c.requires.fits _ _ _ refl).0)))))
+number_binary-number-requires g t c κs within =
+    let below : num_size c.get.result.now < num_size (exprs.Binary c.args.op c.args.left.now c.args.right.now) = binary_left _ _ _ _ _ refl c.get.ensures in
+    (omega (arith, below, c.decreases), (within.0, (within.1, (c.requires.served, num_same c.args.view.now _ _ c.get.ensures ((binary_fits c.args.view.now (exprs.Binary c.args.op c.args.left.now c.args.right.now) c.requires.fits _ _ _ refl).0)))))
 
 pub number_binary-number-requires-2 : goal.number_binary-number-requires-2
-number_binary-number-requires-2 g t c κs within = (search (rules, nums.the_lemmas), (within.0, (within.1, (served_still c.args.view.now _ _ c.in_ok-a.ensures.kept c.requires.served, num_same c.args.view.now _ _ c.get-2.ensures ((binary_fits c.args.view.now (exprs.Binary c.args.op c.args.left.now c.args.right.now) c.requires.fits _ _ _ refl).1)))))
+number_binary-number-requires-2 g t c κs within =
+    let below : num_size c.get-2.result.now < num_size (exprs.Binary c.args.op c.args.left.now c.args.right.now) = binary_right _ _ _ _ _ refl c.get-2.ensures in
+    (omega (arith, below, c.decreases), (within.0, (within.1, (served_still c.args.view.now _ _ c.in_ok-a.ensures.kept c.requires.served, num_same c.args.view.now _ _ c.get-2.ensures ((binary_fits c.args.view.now (exprs.Binary c.args.op c.args.left.now c.args.right.now) c.requires.fits _ _ _ refl).1)))))
 
 pub number_compare-text-requires : goal.number_compare-text-requires
-number_compare-text-requires g t c κs within = (search (rules, nums.the_lemmas), (within.0, (within.1, (c.requires.served, str_same c.args.view.now _ _ c.get.ensures ((compare_fits c.args.view.now (exprs.Compare c.args.equal c.args.left.now c.args.right.now) c.requires.fits _ _ _ refl).0)))))
+number_compare-text-requires g t c κs within =
+    let below : str_size c.get.result.now < num_size (exprs.Compare c.args.equal c.args.left.now c.args.right.now) = compare_left _ _ _ _ _ refl c.get.ensures in
+    (omega (arith, below, c.decreases), (within.0, (within.1, (c.requires.served, str_same c.args.view.now _ _ c.get.ensures ((compare_fits c.args.view.now (exprs.Compare c.args.equal c.args.left.now c.args.right.now) c.requires.fits _ _ _ refl).0)))))
 
 pub number_compare-text-requires-2 : goal.number_compare-text-requires-2
-number_compare-text-requires-2 g t c κs within = (search (rules, nums.the_lemmas), (within.0, (within.1, (served_still c.args.view.now _ _ c.in_ok-a.ensures.kept c.requires.served, str_same c.args.view.now _ _ c.get-2.ensures ((compare_fits c.args.view.now (exprs.Compare c.args.equal c.args.left.now c.args.right.now) c.requires.fits _ _ _ refl).1)))))
+number_compare-text-requires-2 g t c κs within =
+    let below : str_size c.get-2.result.now < num_size (exprs.Compare c.args.equal c.args.left.now c.args.right.now) = compare_right _ _ _ _ _ refl c.get-2.ensures in
+    (omega (arith, below, c.decreases), (within.0, (within.1, (served_still c.args.view.now _ _ c.in_ok-a.ensures.kept c.requires.served, str_same c.args.view.now _ _ c.get-2.ensures ((compare_fits c.args.view.now (exprs.Compare c.args.equal c.args.left.now c.args.right.now) c.requires.fits _ _ _ refl).1)))))
 
 pub number_and-number-requires : goal.number_and-number-requires
-number_and-number-requires g t c κs within = (search (rules, nums.the_lemmas), (within.0, (within.1, (c.requires.served, num_same c.args.view.now _ _ c.get.ensures ((and_fits c.args.view.now (exprs.AndThen c.args.left.now c.args.right.now) c.requires.fits _ _ refl).0)))))
+number_and-number-requires g t c κs within =
+    let below : num_size c.get.result.now < num_size (exprs.AndThen c.args.left.now c.args.right.now) = and_left _ _ _ _ refl c.get.ensures in
+    (omega (arith, below, c.decreases), (within.0, (within.1, (c.requires.served, num_same c.args.view.now _ _ c.get.ensures ((and_fits c.args.view.now (exprs.AndThen c.args.left.now c.args.right.now) c.requires.fits _ _ refl).0)))))
 
 pub number_and-number-requires-then-holds : goal.number_and-number-requires-then-holds
-number_and-number-requires-then-holds g t c κs within = (search (rules, nums.the_lemmas), (within.0, (within.1, (served_still c.args.view.now _ _ c.in_ok-a.ensures.kept c.requires.served, num_same c.args.view.now _ _ c.get-then-holds.ensures ((and_fits c.args.view.now (exprs.AndThen c.args.left.now c.args.right.now) c.requires.fits _ _ refl).1)))))
+number_and-number-requires-then-holds g t c κs within =
+    let below : num_size c.get-then-holds.result.now < num_size (exprs.AndThen c.args.left.now c.args.right.now) = and_right _ _ _ _ refl c.get-then-holds.ensures in
+    (omega (arith, below, c.decreases), (within.0, (within.1, (served_still c.args.view.now _ _ c.in_ok-a.ensures.kept c.requires.served, num_same c.args.view.now _ _ c.get-then-holds.ensures ((and_fits c.args.view.now (exprs.AndThen c.args.left.now c.args.right.now) c.requires.fits _ _ refl).1)))))
 
 pub number_or-number-requires : goal.number_or-number-requires
-number_or-number-requires g t c κs within = (search (rules, nums.the_lemmas), (within.0, (within.1, (c.requires.served, num_same c.args.view.now _ _ c.get.ensures ((or_fits c.args.view.now (exprs.OrElse c.args.left.now c.args.right.now) c.requires.fits _ _ refl).0)))))
+number_or-number-requires g t c κs within =
+    let below : num_size c.get.result.now < num_size (exprs.OrElse c.args.left.now c.args.right.now) = or_left _ _ _ _ refl c.get.ensures in
+    (omega (arith, below, c.decreases), (within.0, (within.1, (c.requires.served, num_same c.args.view.now _ _ c.get.ensures ((or_fits c.args.view.now (exprs.OrElse c.args.left.now c.args.right.now) c.requires.fits _ _ refl).0)))))
 
 pub number_or-number-requires-else-holds : goal.number_or-number-requires-else-holds
-number_or-number-requires-else-holds g t c κs within = (search (rules, nums.the_lemmas), (within.0, (within.1, (served_still c.args.view.now _ _ c.in_ok-a.ensures.kept c.requires.served, num_same c.args.view.now _ _ c.get-else-holds.ensures ((or_fits c.args.view.now (exprs.OrElse c.args.left.now c.args.right.now) c.requires.fits _ _ refl).1)))))
+number_or-number-requires-else-holds g t c κs within =
+    let below : num_size c.get-else-holds.result.now < num_size (exprs.OrElse c.args.left.now c.args.right.now) = or_right _ _ _ _ refl c.get-else-holds.ensures in
+    (omega (arith, below, c.decreases), (within.0, (within.1, (served_still c.args.view.now _ _ c.in_ok-a.ensures.kept c.requires.served, num_same c.args.view.now _ _ c.get-else-holds.ensures ((or_fits c.args.view.now (exprs.OrElse c.args.left.now c.args.right.now) c.requires.fits _ _ refl).1)))))
 
 pub number_choose-number-requires : goal.number_choose-number-requires
-number_choose-number-requires g t c κs within = (search (rules, nums.the_lemmas), (within.0, (within.1, (c.requires.served, num_same c.args.view.now _ _ c.get.ensures ((choose_fits c.args.view.now (exprs.Choose c.args.condition.now c.args.yes.now c.args.no.now) c.requires.fits _ _ _ refl).0)))))
+number_choose-number-requires g t c κs within =
+    let below : num_size c.get.result.now < num_size (exprs.Choose c.args.condition.now c.args.yes.now c.args.no.now) = choose_test _ _ _ _ _ refl c.get.ensures in
+    (omega (arith, below, c.decreases), (within.0, (within.1, (c.requires.served, num_same c.args.view.now _ _ c.get.ensures ((choose_fits c.args.view.now (exprs.Choose c.args.condition.now c.args.yes.now c.args.no.now) c.requires.fits _ _ _ refl).0)))))
 
 pub number_choose-number-requires-then-holds : goal.number_choose-number-requires-then-holds
-number_choose-number-requires-then-holds g t c κs within = (search (rules, nums.the_lemmas), (within.0, (within.1, (served_still c.args.view.now _ _ c.in_ok-test.ensures.kept c.requires.served, num_same c.args.view.now _ _ c.get-then-holds.ensures ((choose_fits c.args.view.now (exprs.Choose c.args.condition.now c.args.yes.now c.args.no.now) c.requires.fits _ _ _ refl).1.0)))))
+number_choose-number-requires-then-holds g t c κs within =
+    let below : num_size c.get-then-holds.result.now < num_size (exprs.Choose c.args.condition.now c.args.yes.now c.args.no.now) = choose_yes _ _ _ _ _ refl c.get-then-holds.ensures in
+    (omega (arith, below, c.decreases), (within.0, (within.1, (served_still c.args.view.now _ _ c.in_ok-test.ensures.kept c.requires.served, num_same c.args.view.now _ _ c.get-then-holds.ensures ((choose_fits c.args.view.now (exprs.Choose c.args.condition.now c.args.yes.now c.args.no.now) c.requires.fits _ _ _ refl).1.0)))))
 
 pub number_choose-number-requires-else-holds : goal.number_choose-number-requires-else-holds
-number_choose-number-requires-else-holds g t c κs within = (search (rules, nums.the_lemmas), (within.0, (within.1, (served_still c.args.view.now _ _ c.in_ok-test.ensures.kept c.requires.served, num_same c.args.view.now _ _ c.get-else-holds.ensures ((choose_fits c.args.view.now (exprs.Choose c.args.condition.now c.args.yes.now c.args.no.now) c.requires.fits _ _ _ refl).1.1)))))
+number_choose-number-requires-else-holds g t c κs within =
+    let below : num_size c.get-else-holds.result.now < num_size (exprs.Choose c.args.condition.now c.args.yes.now c.args.no.now) = choose_no _ _ _ _ _ refl c.get-else-holds.ensures in
+    (omega (arith, below, c.decreases), (within.0, (within.1, (served_still c.args.view.now _ _ c.in_ok-test.ensures.kept c.requires.served, num_same c.args.view.now _ _ c.get-else-holds.ensures ((choose_fits c.args.view.now (exprs.Choose c.args.condition.now c.args.yes.now c.args.no.now) c.requires.fits _ _ _ refl).1.1)))))
 
 pub text-number-requires : goal.text-number-requires
-text-number-requires g t c κs within = (search (rules, strs.the_lemmas), (within.0, (within.1, (c.requires.served, num_same c.args.view.now _ _ c.get.ensures ((choose_text_fits c.args.view.now c.args.e.now c.requires.fits _ _ _ c.in-Choose.is).0)))))
+text-number-requires g t c κs within =
+    let below : num_size c.get.result.now < str_size c.args.e.now = text_choose_test _ _ _ _ _ c.in-Choose.is c.get.ensures in
+    (omega (arith, below, c.decreases), (within.0, (within.1, (c.requires.served, num_same c.args.view.now _ _ c.get.ensures ((choose_text_fits c.args.view.now c.args.e.now c.requires.fits _ _ _ c.in-Choose.is).0)))))
 
 pub text-text-requires : goal.text-text-requires
-text-text-requires g t c κs within = (search (rules, strs.the_lemmas), (within.0, (within.1, (served_still c.args.view.now _ _ c.in_ok-test-in-Choose.ensures.kept c.requires.served, str_same c.args.view.now _ _ c.get-then-holds.ensures ((choose_text_fits c.args.view.now c.args.e.now c.requires.fits _ _ _ c.in-Choose.is).1.0)))))
+text-text-requires g t c κs within =
+    let below : str_size c.get-then-holds.result.now < str_size c.args.e.now = text_choose_yes _ _ _ _ _ c.in-Choose.is c.get-then-holds.ensures in
+    (omega (arith, below, c.decreases), (within.0, (within.1, (served_still c.args.view.now _ _ c.in_ok-test-in-Choose.ensures.kept c.requires.served, str_same c.args.view.now _ _ c.get-then-holds.ensures ((choose_text_fits c.args.view.now c.args.e.now c.requires.fits _ _ _ c.in-Choose.is).1.0)))))
 
 pub text-text-requires-else-holds : goal.text-text-requires-else-holds
-text-text-requires-else-holds g t c κs within = (search (rules, strs.the_lemmas), (within.0, (within.1, (served_still c.args.view.now _ _ c.in_ok-test-in-Choose.ensures.kept c.requires.served, str_same c.args.view.now _ _ c.get-else-holds.ensures ((choose_text_fits c.args.view.now c.args.e.now c.requires.fits _ _ _ c.in-Choose.is).1.1)))))
+text-text-requires-else-holds g t c κs within =
+    let below : str_size c.get-else-holds.result.now < str_size c.args.e.now = text_choose_no _ _ _ _ _ c.in-Choose.is c.get-else-holds.ensures in
+    (omega (arith, below, c.decreases), (within.0, (within.1, (served_still c.args.view.now _ _ c.in_ok-test-in-Choose.ensures.kept c.requires.served, str_same c.args.view.now _ _ c.get-else-holds.ensures ((choose_text_fits c.args.view.now c.args.e.now c.requires.fits _ _ _ c.in-Choose.is).1.1)))))
 
 pub number-returns-in-Builtin-clause-kept : goal.number-returns-in-Builtin-clause-kept
 number-returns-in-Builtin-clause-kept g t c = refl
@@ -691,7 +723,8 @@ values-returns-in_err-push-clause-turns g t c = c.in_ok-part.ensures.turns ∙ c
 
 pub number-number_binary-requires : goal.number-number_binary-requires
 number-number_binary-requires g t c κs within =
-    (search (rules, nums.the_lemmas), (within.0, (within.1, (c.requires.served, subst (λ (e : NumExpr). Fits c.args.view.now (num_parts e)) c.in-Binary.is c.requires.fits))))
+    let whole : num_size c.args.e.now ≡ num_size (exprs.Binary c.in-Binary.op c.in-Binary.left c.in-Binary.right) = ap num_size c.in-Binary.is in
+    (omega (arith, whole, c.decreases), (within.0, (within.1, (c.requires.served, subst (λ (e : NumExpr). Fits c.args.view.now (num_parts e)) c.in-Binary.is c.requires.fits))))
 
 pub number-returns-in-Binary-clause-walked : goal.number-returns-in-Binary-clause-walked
 number-returns-in-Binary-clause-walked g t c = told.Walked-num _ _ _ _ _ _ _ _ (ap number_does c.in-Binary.is) c.number_binary.ensures.walked
@@ -704,7 +737,8 @@ number-returns-in-Binary-clause-turns g t c = c.number_binary.ensures.turns
 
 pub number-number_compare-requires : goal.number-number_compare-requires
 number-number_compare-requires g t c κs within =
-    (search (rules, nums.the_lemmas), (within.0, (within.1, (c.requires.served, subst (λ (e : NumExpr). Fits c.args.view.now (num_parts e)) c.in-Compare.is c.requires.fits))))
+    let whole : num_size c.args.e.now ≡ num_size (exprs.Compare c.in-Compare.equal c.in-Compare.left c.in-Compare.right) = ap num_size c.in-Compare.is in
+    (omega (arith, whole, c.decreases), (within.0, (within.1, (c.requires.served, subst (λ (e : NumExpr). Fits c.args.view.now (num_parts e)) c.in-Compare.is c.requires.fits))))
 
 pub number-returns-in-Compare-clause-walked : goal.number-returns-in-Compare-clause-walked
 number-returns-in-Compare-clause-walked g t c = told.Walked-num _ _ _ _ _ _ _ _ (ap number_does c.in-Compare.is) c.number_compare.ensures.walked
@@ -717,7 +751,8 @@ number-returns-in-Compare-clause-turns g t c = c.number_compare.ensures.turns
 
 pub number-number_and-requires : goal.number-number_and-requires
 number-number_and-requires g t c κs within =
-    (search (rules, nums.the_lemmas), (within.0, (within.1, (c.requires.served, subst (λ (e : NumExpr). Fits c.args.view.now (num_parts e)) c.in-AndThen.is c.requires.fits))))
+    let whole : num_size c.args.e.now ≡ num_size (exprs.AndThen c.in-AndThen.left c.in-AndThen.right) = ap num_size c.in-AndThen.is in
+    (omega (arith, whole, c.decreases), (within.0, (within.1, (c.requires.served, subst (λ (e : NumExpr). Fits c.args.view.now (num_parts e)) c.in-AndThen.is c.requires.fits))))
 
 pub number-returns-in-AndThen-clause-walked : goal.number-returns-in-AndThen-clause-walked
 number-returns-in-AndThen-clause-walked g t c = told.Walked-num _ _ _ _ _ _ _ _ (ap number_does c.in-AndThen.is) c.number_and.ensures.walked
@@ -730,7 +765,8 @@ number-returns-in-AndThen-clause-turns g t c = c.number_and.ensures.turns
 
 pub number-number_or-requires : goal.number-number_or-requires
 number-number_or-requires g t c κs within =
-    (search (rules, nums.the_lemmas), (within.0, (within.1, (c.requires.served, subst (λ (e : NumExpr). Fits c.args.view.now (num_parts e)) c.in-OrElse.is c.requires.fits))))
+    let whole : num_size c.args.e.now ≡ num_size (exprs.OrElse c.in-OrElse.left c.in-OrElse.right) = ap num_size c.in-OrElse.is in
+    (omega (arith, whole, c.decreases), (within.0, (within.1, (c.requires.served, subst (λ (e : NumExpr). Fits c.args.view.now (num_parts e)) c.in-OrElse.is c.requires.fits))))
 
 pub number-returns-in-OrElse-clause-walked : goal.number-returns-in-OrElse-clause-walked
 number-returns-in-OrElse-clause-walked g t c = told.Walked-num _ _ _ _ _ _ _ _ (ap number_does c.in-OrElse.is) c.number_or.ensures.walked
@@ -743,7 +779,8 @@ number-returns-in-OrElse-clause-turns g t c = c.number_or.ensures.turns
 
 pub number-number_choose-requires : goal.number-number_choose-requires
 number-number_choose-requires g t c κs within =
-    (search (rules, nums.the_lemmas), (within.0, (within.1, (c.requires.served, subst (λ (e : NumExpr). Fits c.args.view.now (num_parts e)) c.in-Choose.is c.requires.fits))))
+    let whole : num_size c.args.e.now ≡ num_size (exprs.Choose c.in-Choose.condition c.in-Choose.yes c.in-Choose.no) = ap num_size c.in-Choose.is in
+    (omega (arith, whole, c.decreases), (within.0, (within.1, (c.requires.served, subst (λ (e : NumExpr). Fits c.args.view.now (num_parts e)) c.in-Choose.is c.requires.fits))))
 
 pub number-returns-in-Choose-clause-walked : goal.number-returns-in-Choose-clause-walked
 number-returns-in-Choose-clause-walked g t c = told.Walked-num _ _ _ _ _ _ _ _ (ap number_does c.in-Choose.is) c.number_choose.ensures.walked
@@ -753,3 +790,12 @@ number-returns-in-Choose-clause-kept g t c = c.number_choose.ensures.kept
 
 pub number-returns-in-Choose-clause-turns : goal.number-returns-in-Choose-clause-turns
 number-returns-in-Choose-clause-turns g t c = c.number_choose.ensures.turns
+
+pub values-returns-clause-shaped : goal.values-returns-clause-shaped
+values-returns-clause-shaped g t c = shapes-end _ _ _ c.loop-key-test.false c.loop-key.invariant.shaped
+
+pub number-returns-in-StepVar-clause-turns : goal.number-returns-in-StepVar-clause-turns
+number-returns-in-StepVar-clause-turns g t c = ap (λ (f : Frame). f.turns) c.step_variable.ensures.frame
+
+pub number-returns-in-Agg-clause-walked : goal.number-returns-in-Agg-clause-walked
+number-returns-in-Agg-clause-walked g t c = told.Walked-num _ _ _ _ _ _ _ _ (does.agg_num _ _ _ _ c.in-Agg.is c.as_slice-in-Agg.ensures) c.read_agg.ensures.walked

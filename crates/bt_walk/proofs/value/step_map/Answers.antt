@@ -4,6 +4,7 @@ use Rattle.std.proofs.lemmas.Result.{err_from_is_err_and}
 use Rattle.bt_core.proofs.InteractionLaws.{Performed-none}
 use Rattle.map_ops.specs.Values.{number_of, next}
 use Rattle.bt_walk.proofs.Binds.{Part-first, Part-next, Whole-next, Number-done, Lifted-done, Lifted-begun, Stopped}
+use Rattle.bt_walk.proofs.Fitting.{can_get, can_set}
 use Rattle.bt_walk.proofs.value.step_map.Goals as goal
 
 pub returns-in_err-again-clause-made : goal.returns-in_err-again-clause-made
@@ -52,3 +53,24 @@ returns-else-prefix-clause-made g c scene frame =
     let done = rw new at put in
     Whole-next _ _ _ _ _ _ _ _ (Lifted-done _ scene frame _ _ _ got) _ _ (Whole-next _ _ _ _ _ _ _ _ (done scene frame) _ _
     (Number-done _ _ _ _ _ old_fits (ap (λ b. cond b (next c.args.plus (number_of c.in_ok-value.value)) (number_of c.in_ok-value.value)) c.if-prefix.false ∙ sym c.number_of-old.ensures)))
+
+pub get-requires : goal.get-requires
+get-requires g c = rw c.in_ok-again.ensures (can_get (g.P.Port.fixed c.args.port.now).setting c.args.map c.args.key c.requires)
+
+pub set-requires : goal.set-requires
+set-requires g c = rw c.in_ok-value.ensures.kept (can_set (g.P.Port.fixed c.args.port.now).setting c.args.map c.args.key c.requires _)
+
+pub returns-in_err-again-clause-kept : goal.returns-in_err-again-clause-kept
+returns-in_err-again-clause-kept g c = refl
+
+pub returns-in_err-value-clause-kept : goal.returns-in_err-value-clause-kept
+returns-in_err-value-clause-kept g c = c.in_err-value.ensures.kept
+
+pub returns-in_err-set-clause-kept : goal.returns-in_err-set-clause-kept
+returns-in_err-set-clause-kept g c = c.in_err-set.ensures.kept ∙ c.in_ok-value.ensures.kept
+
+pub returns-then-prefix-clause-kept : goal.returns-then-prefix-clause-kept
+returns-then-prefix-clause-kept g c = c.in_ok-set.ensures.kept ∙ c.in_ok-value.ensures.kept
+
+pub returns-else-prefix-clause-kept : goal.returns-else-prefix-clause-kept
+returns-else-prefix-clause-kept g c = c.in_ok-set.ensures.kept ∙ c.in_ok-value.ensures.kept

@@ -19,6 +19,7 @@ use Rattle.bt_walk.proofs.Loops.{Left-Walked, done_with, block-stop, block-next,
 use Rattle.bt_walk.proofs.WalkedAs.{Walked-stmt}
 use Rattle.walk_meaning.proofs.StmtDoes.{print_stmt, if_stmt, arms_fit, otherwise_fits, block_is, stmts_fit}
 use Rattle.bt_walk.proofs.Statements.{same_turns, clear_does, delete_does, delete_fits, gather_does, gather_fits, jump_does, printf_does, printf_fits, setmap_does, setmap_fits, setvar_does, setvar_fits, step_does, step_fits, unroll_does, unroll_fits, updatemap_does, updatemap_fits, updatevar_does, updatevar_fits, while_does, while_fits, zero_does}
+use Rattle.bt_walk.proofs.Fitting.{served_still}
 use Rattle.bt_walk.proofs.walk.+walk.Goals as goal
 
 stopped : (flow : Flow) → flow ≡ Stop Cut → leaves flow ≡ None → ⊥
@@ -466,3 +467,32 @@ walk_stmt-returns-in-If-clause-kept g t c = c.walk_if.ensures.kept
 
 pub walk_stmt-returns-in-If-clause-turns : goal.walk_stmt-returns-in-If-clause-turns
 walk_stmt-returns-in-If-clause-turns g t c = c.walk_if.ensures.turns
+
+pub walk_turn-walk_block-requires : goal.walk_turn-walk_block-requires
+walk_turn-walk_block-requires g t c κs within = (omega (arith, c.decreases), (within.0, (within.1, (c.requires.served, c.requires.fits))))
+
+pub walk_turns-walk_turn-requires : goal.walk_turns-walk_turn-requires
+walk_turns-walk_turn-requires g t c κs within = (omega (arith, c.decreases), (within.0, (within.1, (served_still c.args.view.now _ _ c.loop-made.invariant.kept c.requires.served, c.requires.fits))))
+
+pub walk_while-walk_turn-requires : goal.walk_while-walk_turn-requires
+walk_while-walk_turn-requires g t c κs within = (omega (arith, c.decreases), (within.0, (within.1, (served_still c.args.view.now _ _ (c.in_ok-value.ensures.kept ∙ c.loop-value.invariant.kept) c.requires.served, c.requires.fits))))
+
+pub walk_while-loop-value-smaller : goal.walk_while-loop-value-smaller
+walk_while-loop-value-smaller g t c =
+    let fewer : c.walk_turn.new.frame.turns < c.number.new.frame.turns = c.in_ok-flow.ensures.fewer (sym c.leaves.ensures ∙ c.in-None.is) in
+    omega (arith, fewer, c.in_ok-value.ensures.turns)
+
+pub walk_while-number-requires-clause-served : goal.walk_while-number-requires-clause-served
+walk_while-number-requires-clause-served g t c = served_still c.args.view.now _ _ c.loop-value.invariant.kept c.requires.served
+
+pub walk_while-number-requires-clause-fits : goal.walk_while-number-requires-clause-fits
+walk_while-number-requires-clause-fits g t c = c.requires.test
+
+pub walk_stmt-print-requires-clause-served : goal.walk_stmt-print-requires-clause-served
+walk_stmt-print-requires-clause-served g t c = c.requires.served
+
+pub walk_stmt-clear-requires-clause-served : goal.walk_stmt-clear-requires-clause-served
+walk_stmt-clear-requires-clause-served g t c = c.requires.served
+
+pub walk_stmt-zero-requires-clause-served : goal.walk_stmt-zero-requires-clause-served
+walk_stmt-zero-requires-clause-served g t c = c.requires.served
