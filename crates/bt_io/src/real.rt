@@ -1,19 +1,24 @@
 // The trusted edge: real files, standard output and standard error.
-ghost use Rattle.std.specs.Prelude.{◌≡◌, ◌↔◌, [], ◌∷◌, ◌++◌, ◌⊎◌, None, ◌<◌, ◌≤◌, length, IfOk, IfSome, IsErrOf, OnOk, OnErr};
+ghost use Rattle.std.specs.Prelude.{◌≡◌, ◌↔◌, [], ◌∷◌, ◌++◌, ◌⊎◌, None, ◌<◌, ◌≤◌, length, IfOk, IfSome, IsErrOf, OnOk, OnErr, Err};
 ghost use Rattle.std.specs.IoError.{error_kind};
+ghost use Rattle.std.specs.Thread.{IsSync};
 ghost use Rattle.bt_io.specs.Calls.{one_more};
 ghost use Rattle.bt_io.specs.Faults.{Rose};
+ghost use Rattle.bt_io.specs.Parts.{joined};
 
 use crate::names::note;
-use crate::shelf::{Shelf, ShelfError};
+use crate::parts::Cutter;
+use crate::shelf::{Shelf, ShelfError, one_part};
 use crate::sink::{Sink, SinkFailed};
+use crate::spans::read_spans;
 use bt_core::items::Items;
 use bt_core::memory::Memory;
 use std::alloc::Global;
-use std::fs::OpenFile;
+use std::fs::{File, OpenFile};
 use std::io::{ErrorKind, Print, Read, Stderr, Stdout};
 use std::marker::Model;
 use std::rt::Files;
+use std::thread::Threads;
 use std::{fs, io};
 
 /// The files of the system, named by their paths. It tells no content.
@@ -51,7 +56,34 @@ impl<R: Files> FileShelf<R> {
     }
 }
 
-impl<R: Files> Shelf for FileShelf<R> {
+impl<R> FileShelf<R> {
+    // What was read, handed on. Where it is a fault, the count rises and the name is noted as failed.
+    fn told<A: Drop>(
+        &mut self,
+        alloc: Global,
+        name: &str,
+        answer: Result<A, ShelfError>,
+    ) -> Result<A, ShelfError>
+        ensures answer { (result ≡ answer) ⊎ (result ≡ Err ShelfError.Memory) }
+        ensures asked { self.new.asked ≡ self.old.asked }
+        ensures later { self.old.faults ≤ self.new.faults }
+        ensures fault { IsErrOf result ShelfError.Failed → self.new.faults ≡ one_more self.old.faults }
+        ensures no_fault { IsErrOf result ShelfError.Failed ⊎ (self.new.faults ≡ self.old.faults) }
+        ensures failed_name { IsErrOf result ShelfError.Failed → self.new.failed ≡ self.old.failed ++ name.now ∷ [] }
+        ensures none_failed { IsErrOf result ShelfError.Failed ⊎ (self.new.failed ≡ self.old.failed) }
+    {
+        match answer {
+            Err(ShelfError::Failed) => {
+                note(alloc, &mut self.failed, name)?;
+                self.faults = self.faults.saturating_add(1);
+                Err(ShelfError::Failed)
+            }
+            answer => answer,
+        }
+    }
+}
+
+impl<R: Files<File = File>> Shelf for FileShelf<R> {
     ghost held = { λ s name. None };
 
     ghost faults = { λ s. s.faults };
@@ -75,14 +107,36 @@ impl<R: Files> Shelf for FileShelf<R> {
         ensures none_failed { IsErrOf result ShelfError.Failed ⊎ (self.new.failed ≡ self.old.failed) }
     {
         note(alloc, &mut self.asked, name)?;
-        match load(&self.rt, alloc, name, limit) {
-            Err(ShelfError::Failed) => {
-                note(alloc, &mut self.failed, name)?;
-                self.faults = self.faults.saturating_add(1);
-                Err(ShelfError::Failed)
-            }
-            answer => answer,
-        }
+        let answer = load(&self.rt, alloc, name, limit);
+        self.told(alloc, name, answer)
+    }
+
+    fn read_in_parts<T: Threads + Sync, C: Cutter>(
+        &mut self,
+        threads: &T,
+        alloc: Global,
+        name: &str,
+        limit: u64,
+        cutter: &C,
+    ) -> Result<Vec<Items<u8>>, ShelfError>
+        requires { IsSync T.row }
+
+        // What stands after it.
+        ensures fault { IsErrOf result ShelfError.Failed → self.new.faults ≡ one_more self.old.faults }
+        ensures no_fault { IsErrOf result ShelfError.Failed ⊎ (self.new.faults ≡ self.old.faults) }
+        ensures named { IsErrOf result ShelfError.Memory ⊎ (self.new.asked ≡ self.old.asked ++ name.now ∷ []) }
+        ensures named_or_not { (self.new.asked ≡ self.old.asked ++ name.now ∷ []) ⊎ (self.new.asked ≡ self.old.asked) }
+
+        // What every shelf promises, of one that tells no content.
+        ensures fits { IfOk result (λ parts. length (joined parts.items) ≤ limit) }
+        ensures failed { IsErrOf result ShelfError.Failed → Rose self.old.faults self.new.faults }
+        ensures later { self.old.faults ≤ self.new.faults }
+        ensures failed_name { IsErrOf result ShelfError.Failed → self.new.failed ≡ self.old.failed ++ name.now ∷ [] }
+        ensures none_failed { IsErrOf result ShelfError.Failed ⊎ (self.new.failed ≡ self.old.failed) }
+    {
+        note(alloc, &mut self.asked, name)?;
+        let answer = load_parts(&self.rt, threads, alloc, name, limit, cutter);
+        self.told(alloc, name, answer)
     }
 }
 
@@ -102,11 +156,43 @@ fn room_for<F: OpenFile>(alloc: Global, file: &F, limit: u64) -> Result<Vec<u8>,
     Ok(Vec::with_capacity(alloc, usize::try_from(room)?)?)
 }
 
-// The bytes of a file. At most one byte more than the limit is read.
+// The bytes of a file by its name.
 fn load<R: Files>(rt: &R, alloc: Global, name: &str, limit: u64) -> Result<Vec<u8>, ShelfError>
     ensures fits { IfOk result (λ bytes. length bytes.items ≤ limit) }
 {
     let file = fs::open(rt, name).map_err(shelf_error)?;
+    load_whole(alloc, file, limit)
+}
+
+// The bytes of a file by its name, in parts.
+fn load_parts<R: Files<File = File>, T: Threads + Sync, C: Cutter>(
+    rt: &R,
+    threads: &T,
+    alloc: Global,
+    name: &str,
+    limit: u64,
+    cutter: &C,
+) -> Result<Vec<Items<u8>>, ShelfError>
+    ensures fits { IfOk result (λ parts. length (joined parts.items) ≤ limit) }
+{
+    let file = fs::open(rt, name).map_err(shelf_error)?;
+    if let Some(parts) = read_spans(threads, alloc, &file, limit, cutter)? {
+        return Ok(parts);
+    }
+    match load_whole(alloc, file, limit) {
+        Ok(bytes) => one_part(alloc, bytes),
+        Err(error) => Err(error),
+    }
+}
+
+// The bytes of a file. At most one byte more than the limit is read.
+fn load_whole<F: OpenFile + Read + Drop>(
+    alloc: Global,
+    file: F,
+    limit: u64,
+) -> Result<Vec<u8>, ShelfError>
+    ensures fits { IfOk result (λ bytes. length bytes.items ≤ limit) }
+{
     let mut bytes = room_for(alloc, &file, limit)?;
     file.take(limit.saturating_add(1))
         .read_to_end(&mut bytes)

@@ -1,9 +1,14 @@
 // Named files.
-ghost use Rattle.std.specs.Prelude.{◌≡◌, ◌<◌, ◌≤◌, ◌++◌, ◌⊎◌, ◌∷◌, [], ℕ, List, Option, length, IfOk, IfSome, IsErrOf};
+ghost use Rattle.std.specs.Prelude.{◌≡◌, ◌<◌, ◌≤◌, ◌++◌, ◌⊎◌, ◌∷◌, [], ℕ, List, Option, length, IfOk, IfSome, IsErrOf, OnErr};
+ghost use Rattle.std.specs.Thread.{IsSync};
 ghost use Rattle.bt_io.specs.Faults.{Rose};
+ghost use Rattle.bt_io.specs.Parts.{joined};
 
+use crate::parts::Cutter;
+use bt_core::items::Items;
 use bt_core::memory::Memory;
 use std::alloc::Global;
+use std::thread::Threads;
 use thiserror::Error;
 
 /// Why a shelf gives no bytes.
@@ -62,4 +67,46 @@ pub trait Shelf {
         ensures kept { (other : List ℕ) → held self.new other ≡ held self.old other }
         ensures named { IsErrOf result ShelfError.Memory ⊎ (asked self.new ≡ asked self.old ++ name.now ∷ []) }
         ensures named_or_not { (asked self.new ≡ asked self.old ++ name.now ∷ []) ⊎ (asked self.new ≡ asked self.old) };
+
+    /// The same bytes, in one part or in several, which a shelf may read side by side where threads can be started. The cutter says where
+    /// parts begin, for a shelf that asks it.
+    ///
+    /// Answers and leaves what [`Shelf::read`] does.
+    fn read_in_parts<T: Threads + Sync, C: Cutter>(
+        &mut self,
+        _threads: &T,
+        alloc: Global,
+        name: &str,
+        limit: u64,
+        _cutter: &C,
+    ) -> Result<Vec<Items<u8>>, ShelfError>
+        requires { IsSync T.row }
+        ensures bytes { IfOk result (λ parts. IfSome (held self.old name.now) (λ all. joined parts.items ≡ all)) }
+        ensures fits { IfOk result (λ parts. length (joined parts.items) ≤ limit) }
+        ensures too_long { IsErrOf result ShelfError.TooLong → IfSome (held self.old name.now) (λ all. limit < length all) }
+        ensures failed { IsErrOf result ShelfError.Failed → Rose (faults self.old) (faults self.new) }
+        ensures later { faults self.old ≤ faults self.new }
+        ensures failed_name { IsErrOf result ShelfError.Failed → failed self.new ≡ failed self.old ++ name.now ∷ [] }
+        ensures none_failed { IsErrOf result ShelfError.Failed ⊎ (failed self.new ≡ failed self.old) }
+        ensures kept { (other : List ℕ) → held self.new other ≡ held self.old other }
+        ensures named { IsErrOf result ShelfError.Memory ⊎ (asked self.new ≡ asked self.old ++ name.now ∷ []) }
+        ensures named_or_not { (asked self.new ≡ asked self.old ++ name.now ∷ []) ⊎ (asked self.new ≡ asked self.old) }
+    {
+        match self.read(alloc, name, limit) {
+            Ok(bytes) => one_part(alloc, bytes),
+            Err(error) => Err(error),
+        }
+    }
+}
+
+// A file in one part.
+pub(crate) fn one_part(alloc: Global, bytes: Vec<u8>) -> Result<Vec<Items<u8>>, ShelfError>
+    ensures whole { IfOk result (λ parts. joined parts.items ≡ bytes.items) }
+    ensures memory { OnErr result (IsErrOf result ShelfError.Memory) }
+{
+    let mut parts = Vec::new(alloc);
+    match parts.push(Items::of(bytes)) {
+        Ok(()) => Ok(parts),
+        Err(_) => Err(ShelfError::Memory),
+    }
 }

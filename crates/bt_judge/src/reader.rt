@@ -1,19 +1,25 @@
 // On how many threads a recording is read.
-ghost use Rattle.std.specs.Prelude.{◌≡◌, ◌≢◌, ◌⊎◌, IfOk, IfErr, Ok, Err};
+ghost use Rattle.std.specs.Prelude.{◌≡◌, ◌≢◌, ◌⊎◌, ℕ, List, IfOk, IfErr, Ok, Err};
+ghost use Rattle.bt_io.specs.Parts.{joined};
 ghost use Rattle.recordings.specs.declared.recording.Recording.{Recording as Read};
 ghost use Rattle.recordings.specs.declared.error.RecordingError.{RecordingError as Fault};
 ghost use Rattle.recordings.specs.declared.error.RecordingError.TheVariants as fault;
 ghost use Rattle.recordings.specs.Recordings.{recording_bytes, IsValidRecording};
 ghost use Rattle.rec_format.specs.Faults.{IsRecordingFault};
 
+use bt_core::items::Items;
+use bt_io::shelf::{Shelf, ShelfError};
 use rec_format::reading::{read_recording, read_recording_on_threads};
+use rec_format::sections::BeforeCpus;
 use recordings::error::RecordingError;
 use recordings::recording::Recording;
 use std::alloc::Global;
 use std::thread::Threads;
 
-/// Reads recordings, as [`read_recording`] does.
-pub(crate) trait Reader {
+/// The bytes of a recording, as they were read, and the recording that they spell, as [`read_recording`] tells it.
+pub(crate) trait Source {
+    ghost bytes: { Self → List ℕ };
+
     ghost can_read: { Self → Type 0 };
 
     /// The recording that the bytes spell.
@@ -21,42 +27,12 @@ pub(crate) trait Reader {
     /// # Errors
     ///
     /// The first check that fails, in the order of the bytes. [`RecordingError::Memory`] may come at any bytes.
-    fn read(&self, alloc: Global, bytes: Vec<u8>) -> Result<Recording, RecordingError>
-        requires { can_read self.now }
+    fn recording(self, alloc: Global) -> Result<Recording, RecordingError>
+        requires { can_read self }
         ensures valid { IfOk result IsValidRecording }
-        ensures spelled { IfOk result (λ recording. bytes.items ≡ recording_bytes recording) }
-        ensures only { (recording : Read) → IsValidRecording recording → bytes.items ≡ recording_bytes recording
+        ensures spelled { IfOk result (λ recording. bytes self ≡ recording_bytes recording) }
+        ensures only { (recording : Read) → IsValidRecording recording → bytes self ≡ recording_bytes recording
             → (result ≡ Ok recording) ⊎ (result ≡ Err fault.Memory) }
-        ensures fault { IfErr result (λ e. e ≢ fault.Memory → IsRecordingFault bytes.items e) }
-        ensures refused { (e : Fault) → IsRecordingFault bytes.items e → (result ≡ Err e) ⊎ (result ≡ Err fault.Memory) };
-}
-
-/// Reads on the caller's thread.
-#[derive(Clone, Copy)]
-pub(crate) struct OneThread;
-
-/// Reads the entries of each CPU on a thread of its own, where threads can be started.
-#[derive(Drop)]
-pub(crate) struct ManyThreads<'r, R> {
-    pub rt: &'r R,
-}
-
-impl Reader for OneThread {
-    ghost use Rattle.std.specs.Prelude.{⊤};
-
-    ghost can_read = { λ s. ⊤ };
-
-    fn read(&self, alloc: Global, bytes: Vec<u8>) -> Result<Recording, RecordingError> {
-        read_recording(alloc, bytes)
-    }
-}
-
-impl<R: Threads + Sync> Reader for ManyThreads<'_, R> {
-    ghost use Rattle.std.specs.Thread.{IsSync};
-
-    ghost can_read = { λ s. IsSync R.row };
-
-    fn read(&self, alloc: Global, bytes: Vec<u8>) -> Result<Recording, RecordingError> {
-        read_recording_on_threads(self.rt, alloc, bytes)
-    }
+        ensures fault { IfErr result (λ e. e ≢ fault.Memory → IsRecordingFault (bytes self) e) }
+        ensures refused { (e : Fault) → IsRecordingFault (bytes self) e → (result ≡ Err e) ⊎ (result ≡ Err fault.Memory) };
 }

@@ -1,4 +1,3 @@
-pub mod AheadLaws
 pub mod EntryLaws
 pub mod EventLaws
 pub mod HeadLaws
@@ -12,3 +11,4 @@ pub mod WriteLaws
 pub mod KindLaws
 pub mod Versions
 pub mod InFileLaws
+pub mod PartedLaws

@@ -77,7 +77,7 @@ total_more cs c = omega (arith, sum_by-append (λ (d : CpuTrack). length d.entri
 pub total_first : (c : CpuTrack) (cs : List CpuTrack) → total_entries (c ∷ cs) ≡ length c.entries + total_entries cs
 total_first c cs = omega (arith, sum_by-append (λ (d : CpuTrack). length d.entries) (c ∷ []) cs)
 
-numbered_more : (least : ℕ) (cs : List CpuTrack) (c : CpuTrack) → AreNumbered least cs → least_after least cs ≤ c.number → AreNumbered least (cs ++ c ∷ [])
+pub numbered_more : (least : ℕ) (cs : List CpuTrack) (c : CpuTrack) → AreNumbered least cs → least_after least cs ≤ c.number → AreNumbered least (cs ++ c ∷ [])
 numbered_more least [] c so_far low = (low, tt)
 numbered_more least (d ∷ ds) c so_far low = (so_far.0, numbered_more (d.number + 1) ds c so_far.1 low)
 

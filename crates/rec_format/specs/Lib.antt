@@ -1,4 +1,4 @@
-pub mod Ahead
 pub mod Answers
 pub mod Faults
 pub mod Heads
+pub mod Parted

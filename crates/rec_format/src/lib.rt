@@ -1,7 +1,6 @@
 //! The reader and the writer of recordings: a header, event formats, and the entries of each CPU.
 #![tactic(auto)]
 
-mod ahead;
 mod check;
 mod entries;
 mod formats;
@@ -9,8 +8,9 @@ pub mod laws;
 pub mod made;
 mod number;
 mod part;
+mod parted;
 pub mod reading;
-mod sections;
+pub mod sections;
 mod table;
 mod tracks;
 pub mod writing;

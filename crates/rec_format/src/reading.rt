@@ -1,6 +1,7 @@
 // Reading a recording.
 ghost use Rattle.std.specs.Prelude.{◌≡◌, ◌≢◌, ◌⊎◌, IfOk, IfErr, Ok, Err};
 ghost use Rattle.std.specs.Arc.{arc_value};
+ghost use Rattle.bt_io.specs.Parts.{joined};
 ghost use Rattle.recordings.specs.declared.recording.Recording.{Recording};
 ghost use Rattle.recordings.specs.declared.error.RecordingError.{RecordingError};
 ghost use Rattle.recordings.specs.Recordings.{recording_bytes, IsValidRecording};
@@ -8,11 +9,12 @@ ghost use Rattle.rec_format.specs.Faults.{IsRecordingFault};
 ghost use Rattle.rec_format.specs.Answers.{Answers, IsSpelled};
 ghost use Rattle.recordings.specs.Places.{AreBytes};
 
-use crate::ahead::{Ahead, InTurn, OnThreads};
 use crate::check::{has_marks, version_of};
 use crate::entries::Setting;
 use crate::formats::{read_formats, read_header};
+use crate::parted::{only, read_parted, shared, whole};
 use crate::tracks::read_tracks;
+use bt_core::items::Items;
 use recordings::error::RecordingError;
 use recordings::recording::Recording;
 use std::alloc::Global;
@@ -41,12 +43,11 @@ pub fn read_recording(alloc: Global, bytes: Vec<u8>) -> Result<Recording, Record
     ensures refused { (e : RecordingError) → IsRecordingFault bytes.items e → (result ≡ Err e) ⊎ (result ≡ Err RecordingError.Memory) }
 {
     let file = Arc::new(alloc, bytes)?;
-    read(alloc, &InTurn, &file, (*file).as_slice())
+    read(alloc, &file, (*file).as_slice())
 }
 
-/// The same, where the entries of each CPU are read on a thread of its own, if threads can be started and there are many bytes.
-///
-/// The bytes behind the formats are gone over once more before, by their lengths alone.
+/// The same of bytes in parts. Where the first part has the header and the formats and each other one a CPU, the CPUs are read side by
+/// side, if threads can be started. Other parts, and parts in which there is a fault, are put together first.
 ///
 /// # Errors
 ///
@@ -54,33 +55,36 @@ pub fn read_recording(alloc: Global, bytes: Vec<u8>) -> Result<Recording, Record
 pub fn read_recording_on_threads<R: Threads + Sync>(
     rt: &R,
     alloc: Global,
-    bytes: Vec<u8>,
+    parts: Vec<Items<u8>>,
 ) -> Result<Recording, RecordingError>
     // What is read is valid, and the bytes are its spelling.
     ensures valid { IfOk result IsValidRecording }
-    ensures spelled { IfOk result (λ recording. bytes.items ≡ recording_bytes recording) }
+    ensures spelled { IfOk result (λ recording. joined parts.items ≡ recording_bytes recording) }
     // A valid recording that the bytes spell is read, unless memory runs out.
-    ensures only { (recording : Recording) → IsValidRecording recording → bytes.items ≡ recording_bytes recording
+    ensures only { (recording : Recording) → IsValidRecording recording → joined parts.items ≡ recording_bytes recording
         → (result ≡ Ok recording) ⊎ (result ≡ Err RecordingError.Memory) }
     // Any other error is the first fault of the bytes.
-    ensures fault { IfErr result (λ e. e ≢ RecordingError.Memory → IsRecordingFault bytes.items e) }
+    ensures fault { IfErr result (λ e. e ≢ RecordingError.Memory → IsRecordingFault (joined parts.items) e) }
     // The first fault of the bytes is answered, unless memory runs out.
-    ensures refused { (e : RecordingError) → IsRecordingFault bytes.items e → (result ≡ Err e) ⊎ (result ≡ Err RecordingError.Memory) }
+    ensures refused { (e : RecordingError) → IsRecordingFault (joined parts.items) e → (result ≡ Err e) ⊎ (result ≡ Err RecordingError.Memory) }
 {
-    let file = Arc::new(alloc, bytes)?;
-    let ahead = OnThreads { rt };
-    read(alloc, &ahead, &file, (*file).as_slice())
+    if parts.len() < 2 {
+        return read_recording(alloc, only(alloc, parts));
+    }
+    let files = shared(alloc, parts)?;
+    match read_parted(rt, alloc, files.as_slice())? {
+        Some(recording) => Ok(recording),
+        None => read_recording(alloc, whole(alloc, files.as_slice())?),
+    }
 }
 
 /// The recording that the bytes of a file spell, or their first fault.
-fn read<A: Ahead>(
+fn read(
     alloc: Global,
-    ahead: &A,
     file: &Arc<Vec<u8>, Global>,
     bytes: &[u8],
 ) -> Result<Recording, RecordingError>
-    requires can { A.can_read ahead.now }
-    requires file { bytes.now ≡ (arc_value file.now).items }
+    requires { bytes.now ≡ (arc_value file.now).items }
     ensures answer { Answers result (IsSpelled bytes.now) (IsRecordingFault bytes.now) }
     ensures held { AreBytes bytes.now }
 {
@@ -95,8 +99,7 @@ fn read<A: Ahead>(
         end: header.end,
         formats: &table,
     };
-    let early = ahead.read_ahead(alloc, &setting, header.cpus, rest)?;
-    let (cpus, rest) = read_tracks(alloc, file, &setting, early, header.cpus, rest)?;
+    let (cpus, rest) = read_tracks(alloc, file, &setting, header.cpus, rest)?;
     if !rest.is_empty() {
         let offset = bytes.len() - rest.len();
         return Err(RecordingError::TrailingBytes(offset as u64));

@@ -1,98 +1,140 @@
 // Where the entries of each CPU lie in a recording, by the lengths in it alone.
 //
-// Nothing is checked and nothing is promised of what is found: who reads from there compares where it began.
-use crate::part::cpu_at;
+// Nothing is checked and nothing is promised of what is found: it says where a recording is cut to be read side by side, and who reads
+// the parts checks them.
+use bt_core::limits::CPUS;
 use bt_core::memory::Memory;
-use recordings::number::{bytes_at, sized32_at};
+use bt_io::parts::{Cutter, Peek};
 use std::alloc::Global;
 
-/// Bytes of an event before the length of its payload.
-const EVENT_NUMBERS: usize = 40;
+/// Bytes of a header.
+const HEADER_BYTES: u64 = 32;
 
-/// Bytes of a mark behind the byte that tells its kind.
-const MARK_NUMBERS: usize = 16;
+/// Where a header tells the last digit of the version, the number of CPUs and that of formats.
+const VERSION_AT: u64 = 7;
+const CPUS_AT: u64 = 8;
+const FORMATS_AT: u64 = 12;
 
-/// The entries of a CPU: its place in the recording, how many it announces, and how many bytes of the file are left where they begin.
+/// Bytes of the head of a CPU, and where it tells how many entries follow.
+const HEAD_BYTES: u64 = 8;
+const COUNT_AT: u64 = 4;
+
+/// Bytes of an event before its payload, and where the length of that is told.
+const EVENT_BYTES: u64 = 44;
+const LENGTH_AT: u64 = 40;
+
+/// Bytes of a mark, with the byte that tells its kind.
+const MARK_BYTES: u64 = 17;
+
+/// Cuts a recording before the head of each CPU.
 #[derive(Clone, Copy)]
-pub(crate) struct Section {
-    pub cpu: u32,
-    pub count: u32,
-    pub left: usize,
+pub struct BeforeCpus;
+
+impl Cutter for BeforeCpus {
+    fn cuts<P: Peek>(&self, alloc: Global, file: &mut P) -> Result<Vec<u64>, Memory> {
+        match heads_at(file) {
+            Some(first) => heads_from(alloc, file, first),
+            None => Ok(Vec::new(alloc)),
+        }
+    }
 }
 
-/// What follows an event.
-fn behind_event(bytes: &[u8]) -> Option<&[u8]> {
-    let Some((_, payload)) = bytes_at(bytes, EVENT_NUMBERS) else {
-        return None;
-    };
-    let Some((_, rest)) = sized32_at(payload) else {
-        return None;
-    };
-    Some(rest)
+/// Where the heads of so many CPUs begin, and whether a byte tells the kind of each entry.
+#[derive(Clone, Copy)]
+struct Heads {
+    at: u64,
+    cpus: u32,
+    marks: bool,
 }
 
-/// What follows a mark behind the byte that tells its kind.
-fn behind_mark(bytes: &[u8]) -> Option<&[u8]> {
-    let Some((_, rest)) = bytes_at(bytes, MARK_NUMBERS) else {
+/// What the header and the lengths of the formats tell, if there are not more CPUs than a recording may have.
+fn heads_at<P: Peek>(file: &mut P) -> Option<Heads> {
+    let Some(version) = file.u8_at(VERSION_AT) else {
         return None;
     };
-    Some(rest)
+    let Some(cpus) = file.u32_at(CPUS_AT) else {
+        return None;
+    };
+    let Some(formats) = file.u32_at(FORMATS_AT) else {
+        return None;
+    };
+    if cpus > CPUS {
+        return None;
+    }
+    match behind_formats(file, formats) {
+        Some(at) => Some(Heads {
+            at,
+            cpus,
+            marks: version != b'1',
+        }),
+        None => None,
+    }
 }
 
-/// What follows an entry, where there may be marks of lost events or where there may not.
-fn behind_entry(marks: bool, bytes: &[u8]) -> Option<&[u8]> {
+/// The place behind so many formats.
+fn behind_formats<P: Peek>(file: &mut P, formats: u32) -> Option<u64> {
+    let mut at = HEADER_BYTES;
+    for _ in 0..formats {
+        let Some(system) = file.u16_at(at) else {
+            return None;
+        };
+        at = at.saturating_add(2 + u64::from(system));
+        let Some(text) = file.u32_at(at) else {
+            return None;
+        };
+        at = at.saturating_add(4 + u64::from(text));
+    }
+    Some(at)
+}
+
+/// The places of all heads, up to the first behind whose entries none is found. Behind the last CPU nothing is looked for.
+fn heads_from<P: Peek>(alloc: Global, file: &mut P, heads: Heads) -> Result<Vec<u64>, Memory> {
+    let mut places = Vec::new(alloc);
+    let mut at = heads.at;
+    for cpu in 0..heads.cpus {
+        places.push(at)?;
+        if cpu + 1 >= heads.cpus {
+            break;
+        }
+        let Some(behind) = behind_cpu(file, heads.marks, at) else {
+            break;
+        };
+        at = behind;
+    }
+    Ok(places)
+}
+
+/// The place behind the CPU whose head is at a place.
+fn behind_cpu<P: Peek>(file: &mut P, marks: bool, head: u64) -> Option<u64> {
+    let Some(count) = file.u32_at(head.saturating_add(COUNT_AT)) else {
+        return None;
+    };
+    let mut at = head.saturating_add(HEAD_BYTES);
+    for _ in 0..count {
+        let Some(behind) = behind_entry(file, marks, at) else {
+            return None;
+        };
+        at = behind;
+    }
+    Some(at)
+}
+
+/// The place behind the entry at a place.
+fn behind_entry<P: Peek>(file: &mut P, marks: bool, at: u64) -> Option<u64> {
     if !marks {
-        return behind_event(bytes);
+        return behind_event(file, at);
     }
-    if bytes.is_empty() {
-        return None;
-    }
-    match bytes[0] {
-        0 => behind_event(&bytes[1..]),
-        1 => behind_mark(&bytes[1..]),
+    match file.u8_at(at) {
+        Some(0) => behind_event(file, at.saturating_add(1)),
+        Some(1) => Some(at.saturating_add(MARK_BYTES)),
         _ => None,
     }
 }
 
-/// What follows so many entries.
-fn behind_entries(marks: bool, count: u32, bytes: &[u8]) -> Option<&[u8]> {
-    let mut rest = bytes;
-    for _ in 0..count {
-        let Some(after) = behind_entry(marks, rest) else {
-            return None;
-        };
-        rest = after;
+/// The place behind the event at a place.
+fn behind_event<P: Peek>(file: &mut P, at: u64) -> Option<u64> {
+    match file.u32_at(at.saturating_add(LENGTH_AT)) {
+        Some(length) => Some(at.saturating_add(EVENT_BYTES + u64::from(length))),
+        None => None,
     }
-    Some(rest)
-}
-
-/// Where the entries of so many CPUs lie, the last one's first; up to the first that have no end, where it is not the last CPU's, behind
-/// which nothing is looked for.
-pub(crate) fn skim(
-    alloc: Global,
-    marks: bool,
-    count: u32,
-    bytes: &[u8],
-) -> Result<Vec<Section>, Memory> {
-    let mut sections = Vec::new(alloc);
-    let mut rest = bytes;
-    for cpu in 0..count {
-        let Some((head, after)) = cpu_at(rest) else {
-            break;
-        };
-        sections.push(Section {
-            cpu,
-            count: head.entries,
-            left: after.len(),
-        })?;
-        if cpu + 1 >= count {
-            break;
-        }
-        let Some(behind) = behind_entries(marks, head.entries, after) else {
-            break;
-        };
-        rest = behind;
-    }
-    sections.as_mut_slice().reverse();
-    Ok(sections)
 }

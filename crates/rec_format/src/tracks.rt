@@ -1,13 +1,11 @@
 // The CPUs of a recording.
-ghost use Rattle.std.specs.Prelude.{◌≡◌, ◌-◌, All, drop, length};
+ghost use Rattle.std.specs.Prelude.{◌≡◌, ◌-◌, drop, length};
 ghost use Rattle.std.specs.Arc.{arc_value};
 ghost use Rattle.rec_format.specs.Faults.{CpuFails, HasTracks};
-ghost use Rattle.rec_format.specs.Ahead.{IsEarly};
 ghost use Rattle.rec_format.specs.Answers.{Answers};
 
-use crate::ahead::{Early, next_entries};
 use crate::check::cpu_fault;
-use crate::entries::Setting;
+use crate::entries::{Setting, read_entries};
 use crate::part::cpu_at;
 use bt_core::items::Items;
 use recordings::entries::Entries;
@@ -16,18 +14,15 @@ use recordings::recording::CpuTrack;
 use std::alloc::Global;
 use std::sync::Arc;
 
-/// So many CPUs with their entries, and what follows them. The file has all bytes. Entries that were read ahead, the last CPU's first,
-/// are not read again.
+/// So many CPUs with their entries, and what follows them. The file has all bytes.
 pub(crate) fn read_tracks<'b>(
     alloc: Global,
     file: &Arc<Vec<u8>, Global>,
     setting: &Setting<'_>,
-    mut ahead: Vec<Early>,
     count: u32,
     bytes: &'b [u8],
 ) -> Result<(Items<CpuTrack>, &'b [u8]), RecordingError>
     requires whole { setting.now.file.now ≡ (arc_value file.now).items }
-    requires ahead { All (IsEarly setting.now) ahead.items }
     requires suffix { bytes.now ≡ drop (length setting.now.file.now - length bytes.now) setting.now.file.now }
     ensures { Answers result
         (λ read. HasTracks setting.now.marks setting.now.formats.now setting.now.start setting.now.end count bytes.now read.0 read.1.now)
@@ -44,7 +39,7 @@ pub(crate) fn read_tracks<'b>(
         if let Some(fault) = cpu_fault(place, least, announced, head) {
             return Err(fault);
         }
-        let (places, after) = next_entries(alloc, setting, &mut ahead, place, head.entries, after)?;
+        let (places, after) = read_entries(alloc, setting, place, head.entries, after)?;
         let entries = Entries::of(file, places)?;
         cpus.push(CpuTrack {
             number: head.number,

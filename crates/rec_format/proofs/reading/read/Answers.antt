@@ -15,22 +15,21 @@ use Rattle.recordings.proofs.Left.{nothing_left, something_left}
 use Rattle.rec_format.proofs.reading.read.Goals as goal
 
 pub read_tracks-requires : goal.read_tracks-requires
-read_tracks-requires g c =
+read_tracks-requires c =
     let file : List ℕ = c.args.bytes.now in
     let behind = rest_more file file _ c.in_ok-header.rest.now (whole_rest file) c.in_ok-header.ensures.spelled in
     record {
-      whole = c.requires.file;
-      ahead = c.in_ok-early.ensures;
+      whole = c.requires;
       suffix = rest_more file c.in_ok-header.rest.now _ c.in_ok-table.rest.now behind c.in_ok-table.ensures.spelled;
     }
 
 pub returns-in_err-header-clause-answer : goal.returns-in_err-header-clause-answer
-returns-in_err-header-clause-answer g c =
+returns-in_err-header-clause-answer c =
     let p = err_from_is_err_and c.from_residual.result c.from_residual.ensures.1 in
     rw (p.1, p.2) (λ other. inl (c.in_err-header.ensures other))
 
 pub returns-in_err-table-clause-answer : goal.returns-in_err-table-clause-answer
-returns-in_err-table-clause-answer g c =
+returns-in_err-table-clause-answer c =
     let p = err_from_is_err_and c.from_residual-in_err-table.result c.from_residual-in_err-table.ensures.1 in
     rw (p.1, p.2) (λ other. inr (inl (record {
       header = header_part c.in_ok-header.header;
@@ -40,7 +39,7 @@ returns-in_err-table-clause-answer g c =
     })))
 
 pub returns-in_err-cpus-clause-answer : goal.returns-in_err-cpus-clause-answer
-returns-in_err-cpus-clause-answer g c =
+returns-in_err-cpus-clause-answer c =
     let h = c.in_ok-header.header in
     let marks : c.has_marks.result ≡ has_marks (version_of h.magic.now) = c.has_marks.ensures ∙ ap has_marks c.version_of-version.ensures in
     let p = err_from_is_err_and c.from_residual-in_err-cpus.result c.from_residual-in_err-cpus.ensures.1 in
@@ -55,7 +54,7 @@ returns-in_err-cpus-clause-answer g c =
     }))))
 
 pub returns-then-not-is_empty-clause-answer : goal.returns-then-not-is_empty-clause-answer
-returns-then-not-is_empty-clause-answer g c =
+returns-then-not-is_empty-clause-answer c =
     let h = c.in_ok-header.header in
     let marks : c.has_marks.result ≡ has_marks (version_of h.magic.now) = c.has_marks.ensures ∙ ap has_marks c.version_of-version.ensures in
     let tracks = subst (λ (m : Bool). HasTracks m c.in_ok-table.table h.start h.end h.cpus c.in_ok-table.rest.now c.in_ok-cpus.cpus c.in_ok-cpus.rest.now) marks c.in_ok-cpus.ensures in
@@ -72,7 +71,7 @@ returns-then-not-is_empty-clause-answer g c =
     })))
 
 pub returns-clause-answer : goal.returns-clause-answer
-returns-clause-answer g c =
+returns-clause-answer c =
     let h = c.in_ok-header.header in
     let marks : c.has_marks.result ≡ has_marks (version_of h.magic.now) = c.has_marks.ensures ∙ ap has_marks c.version_of-version.ensures in
     let tracks = subst (λ (m : Bool). HasTracks m c.in_ok-table.table h.start h.end h.cpus c.in_ok-table.rest.now c.in_ok-cpus.cpus c.in_ok-cpus.rest.now) marks c.in_ok-cpus.ensures in

@@ -1,20 +1,48 @@
-use Rattle.std.proofs.Common.{◌≡◌, ℕ, List, ap, subst, ◌∙◌}
-use Rattle.recordings.specs.Places.{AreBytes}
-use Rattle.rec_format.specs.Faults.{IsRecordingFault}
-use Rattle.rec_format.specs.Answers.{Answers, IsSpelled}
-use Rattle.rec_format.proofs.UniqueLaws.{answer_valid, answer_spelled, answer_only, answer_fault, answer_refused}
+use Rattle.std.proofs.Common.{◌≡◌, ℕ, List, Option, Some, Ok, Vec, Global, ap, subst, ◌∙◌}
+use Rattle.std.specs.Prelude.{IfSome}
+use Rattle.std.specs.declared.sync.Arc.{Arc}
+use Rattle.bt_io.specs.Parts.{joined}
+use Rattle.recordings.specs.declared.recording.Recording.{Recording}
+use Rattle.rec_format.specs.Parted.{IsParted, shared_bytes}
+use Rattle.rec_format.proofs.UniqueLaws.{answer_only, answer_refused}
 use Rattle.rec_format.proofs.reading.read_recording_on_threads.Goals as goal
 
-pub returns : goal.returns
-returns g c =
-    let same : c.as_slice.result.now ≡ c.args.bytes.items = c.as_slice.ensures.value ∙ ap (λ v. v.items) (c.deref.ensures ∙ c.in_ok-file.ensures.ok) in
-    let held : AreBytes c.args.bytes.items = subst AreBytes same c.read.ensures.held in
-    let answer : Answers c.read.result (IsSpelled c.args.bytes.items) (IsRecordingFault c.args.bytes.items) =
-    subst (λ (l : List ℕ). Answers c.read.result (IsSpelled l) (IsRecordingFault l)) same c.read.ensures.answer in
-    record {
-      valid = answer_valid c.args.bytes.items c.read.result answer;
-      spelled = answer_spelled c.args.bytes.items c.read.result answer;
-      only = answer_only c.args.bytes.items c.read.result held answer;
-      fault = answer_fault c.args.bytes.items c.read.result answer;
-      refused = answer_refused c.args.bytes.items c.read.result held answer;
-    }
+pub returns-then-len-lt2-clause-fault : goal.returns-then-len-lt2-clause-fault
+returns-then-len-lt2-clause-fault g c = rw (← c.only.ensures) c.read_recording.ensures.fault
+
+pub returns-then-len-lt2-clause-refused : goal.returns-then-len-lt2-clause-refused
+returns-then-len-lt2-clause-refused g c = rw (← c.only.ensures) c.read_recording.ensures.refused
+
+-- the bytes of the files are those of the parts
+same_bytes : (files : List (Arc (Vec ℕ Global) Global)) (slice : List (Arc (Vec ℕ Global) Global)) (parts : List (List ℕ)) → slice ≡ files → shared_bytes files ≡ parts
+    → joined (shared_bytes slice) ≡ joined parts
+same_bytes files slice parts whole same = ap (λ (l : List (Arc (Vec ℕ Global) Global)). joined (shared_bytes l)) whole ∙ ap joined same
+
+-- what was read of the files is of the parts
+parted_of : (bytes whole : List ℕ) (read : Option Recording) (recording : Recording) → bytes ≡ whole → read ≡ Some recording → IfSome read (IsParted bytes) → IsParted whole recording
+parted_of bytes whole read recording same some is =
+    subst (λ (l : List ℕ). IsParted l recording) same (subst (λ (r : Option Recording). IfSome r (IsParted bytes)) some is)
+
+pub returns-in-Some-clause-only : goal.returns-in-Some-clause-only
+returns-in-Some-clause-only g c =
+    let same = same_bytes c.in_ok-files.files.items c.as_slice.result.now c.args.parts.items c.as_slice.ensures.value c.in_ok-files.ensures in
+    let is = parted_of _ _ c.in_ok-recording.field-0 c.in-Some.recording same c.in-Some.is c.in_ok-recording.ensures in
+    answer_only (joined c.args.parts.items) (Ok c.in-Some.recording) is.held is.spelled
+
+pub returns-in-Some-clause-refused : goal.returns-in-Some-clause-refused
+returns-in-Some-clause-refused g c =
+    let same = same_bytes c.in_ok-files.files.items c.as_slice.result.now c.args.parts.items c.as_slice.ensures.value c.in_ok-files.ensures in
+    let is = parted_of _ _ c.in_ok-recording.field-0 c.in-Some.recording same c.in-Some.is c.in_ok-recording.ensures in
+    answer_refused (joined c.args.parts.items) (Ok c.in-Some.recording) is.held is.spelled
+
+pub returns-clause-fault : goal.returns-clause-fault
+returns-clause-fault g c =
+    let same = c.in_ok-whole-in-None.ensures
+        ∙ same_bytes c.in_ok-files.files.items c.as_slice-in-None.result.now c.args.parts.items c.as_slice-in-None.ensures.value c.in_ok-files.ensures in
+    rw (← same) c.read_recording-in-None.ensures.fault
+
+pub returns-clause-refused : goal.returns-clause-refused
+returns-clause-refused g c =
+    let same = c.in_ok-whole-in-None.ensures
+        ∙ same_bytes c.in_ok-files.files.items c.as_slice-in-None.result.now c.args.parts.items c.as_slice-in-None.ensures.value c.in_ok-files.ensures in
+    rw (← same) c.read_recording-in-None.ensures.refused

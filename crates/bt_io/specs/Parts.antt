@@ -1,0 +1,7 @@
+-- Files that are read in parts.
+use Rattle.std.specs.Prelude.{ℕ, List}
+use Rattle.std.specs.List.{flat_map}
+
+-- the bytes of all parts, one after another
+abbrev pub joined : List (List ℕ) → List ℕ
+joined parts = flat_map (λ part. part) parts
