@@ -1,8 +1,8 @@
 // What fails of the shelf and the sinks of a case.
 use anyhow::{Context, Result};
 use bt_core::memory::Memory;
-use bt_io::mem_shelf::MemShelf;
-use bt_io::mem_sink::MemSink;
+use mem_io::mem_shelf::MemShelf;
+use mem_io::mem_sink::MemSink;
 use serde_json::Value;
 use std::alloc::Global;
 

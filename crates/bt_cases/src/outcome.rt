@@ -1,9 +1,9 @@
 // What comes of a case.
 use crate::case::Case;
 use bt_core::memory::Memory;
-use bt_io::mem_shelf::MemShelf;
-use bt_io::mem_sink::MemSink;
 use bt_top::serve::serve;
+use mem_io::mem_shelf::MemShelf;
+use mem_io::mem_sink::MemSink;
 use std::alloc::Global;
 use std::fmt;
 use std::sync::Wait;

@@ -5,8 +5,8 @@ use bt_core::items::Items;
 use bt_core::memory::Memory;
 use std::alloc::Global;
 
-// Adds a name at the end of the names asked. After `Memory` they are as before.
-pub(crate) fn note(alloc: Global, asked: &mut Items<Items<u8>>, name: &str) -> Result<(), Memory>
+/// Adds a name at the end of the names asked. After [`Memory`] they are as before.
+pub fn note(alloc: Global, asked: &mut Items<Items<u8>>, name: &str) -> Result<(), Memory>
     ensures ok { OnOk result (asked.new ≡ asked.old ++ name.now ∷ []) }
     ensures err { OnErr result (asked.new ≡ asked.old) }
 {

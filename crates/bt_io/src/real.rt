@@ -7,10 +7,10 @@ ghost use Rattle.bt_io.specs.Faults.{Rose};
 ghost use Rattle.bt_io.specs.Parts.{joined};
 
 use crate::names::note;
-use crate::parts::Cutter;
-use crate::shelf::{Shelf, ShelfError, one_part};
+use crate::parts::{Cutter, one_part};
+use crate::shelf::{Shelf, ShelfError};
 use crate::sink::{Sink, SinkFailed};
-use crate::spans::read_spans;
+use crate::spans::{SPARE_BYTES, read_spans};
 use bt_core::items::Items;
 use bt_core::memory::Memory;
 use std::alloc::Global;
@@ -140,9 +140,6 @@ impl<R: Files<File = File>> Shelf for FileShelf<R> {
     }
 }
 
-/// Room behind the bytes that the system tells of a file, so that the read that finds its end has some.
-const SPARE_BYTES: u64 = 512;
-
 // A vector with room for the bytes that the system tells of a file, or for as many as the limit where those are fewer. What it
 // tells is a guess, as a file may change: whatever comes is read.
 fn room_for<F: OpenFile>(alloc: Global, file: &F, limit: u64) -> Result<Vec<u8>, Memory>
@@ -180,7 +177,7 @@ fn load_parts<R: Files<File = File>, T: Threads + Sync, C: Cutter>(
         return Ok(parts);
     }
     match load_whole(alloc, file, limit) {
-        Ok(bytes) => one_part(alloc, bytes),
+        Ok(bytes) => Ok(one_part(alloc, bytes)?),
         Err(error) => Err(error),
     }
 }

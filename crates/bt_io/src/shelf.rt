@@ -1,10 +1,10 @@
 // Named files.
-ghost use Rattle.std.specs.Prelude.{◌≡◌, ◌<◌, ◌≤◌, ◌++◌, ◌⊎◌, ◌∷◌, [], ℕ, List, Option, length, IfOk, IfSome, IsErrOf, OnErr};
+ghost use Rattle.std.specs.Prelude.{◌≡◌, ◌<◌, ◌≤◌, ◌++◌, ◌⊎◌, ◌∷◌, [], ℕ, List, Option, length, IfOk, IfSome, IsErrOf};
 ghost use Rattle.std.specs.Thread.{IsSync};
 ghost use Rattle.bt_io.specs.Faults.{Rose};
 ghost use Rattle.bt_io.specs.Parts.{joined};
 
-use crate::parts::Cutter;
+use crate::parts::{Cutter, one_part};
 use bt_core::items::Items;
 use bt_core::memory::Memory;
 use std::alloc::Global;
@@ -93,20 +93,8 @@ pub trait Shelf {
         ensures named_or_not { (asked self.new ≡ asked self.old ++ name.now ∷ []) ⊎ (asked self.new ≡ asked self.old) }
     {
         match self.read(alloc, name, limit) {
-            Ok(bytes) => one_part(alloc, bytes),
+            Ok(bytes) => Ok(one_part(alloc, bytes)?),
             Err(error) => Err(error),
         }
-    }
-}
-
-// A file in one part.
-pub(crate) fn one_part(alloc: Global, bytes: Vec<u8>) -> Result<Vec<Items<u8>>, ShelfError>
-    ensures whole { IfOk result (λ parts. joined parts.items ≡ bytes.items) }
-    ensures memory { OnErr result (IsErrOf result ShelfError.Memory) }
-{
-    let mut parts = Vec::new(alloc);
-    match parts.push(Items::of(bytes)) {
-        Ok(()) => Ok(parts),
-        Err(_) => Err(ShelfError::Memory),
     }
 }

@@ -16,8 +16,8 @@ use std::{io, thread};
 /// A file of fewer bytes is read in one part.
 const PARTED_BYTES: u64 = 1_048_576;
 
-/// Room behind the bytes of a part, so that the read that finds its end has some.
-const SPARE_BYTES: u64 = 512;
+/// Room behind the bytes that are awaited, so that the read that finds their end has some.
+pub(crate) const SPARE_BYTES: u64 = 512;
 
 /// So many bytes of a file, from a place on.
 #[derive(Clone, Copy, Drop)]

@@ -1,5 +1,6 @@
 // The files that orders name.
 ghost use Rattle.std.specs.Prelude.{◌≡◌, ◌≢◌, ◌≤◌, ◌⊎◌, [], ◌∷◌, ◌++◌, ℕ, List, IfOk, IfErr};
+ghost use Rattle.bt_io.specs.Parts.{joined};
 ghost use Rattle.bt_meaning.specs.Jobs.{IsJob};
 ghost use Rattle.bt_refusal.specs.declared.refusal.Refusal.TheVariants as refusal;
 ghost use Rattle.bt_judge.specs.Doing.{ComesOfFiles, IsAccountJob, IsRead, IsUnread, refusal_in};
@@ -10,6 +11,7 @@ ghost use Rattle.bt_judge.specs.Reads.{shelf_use};
 
 use crate::judge::judge;
 use crate::reader::{ManyThreads, OneThread, Reader};
+use bt_core::items::Items;
 use bt_core::limits::{RECORDING_BYTES, SCRIPT_BYTES};
 use bt_io::shelf::Shelf;
 use bt_refusal::limits::ACCOUNT_BYTES;
@@ -51,6 +53,29 @@ fn read_file<S: Shelf>(
     }
 }
 
+/// Reads the file of a recording in parts, by a reader.
+fn read_parts<S: Shelf, W: Reader>(
+    alloc: Global,
+    reader: &W,
+    name: &str,
+    shelf: &mut S,
+) -> Result<Vec<Items<u8>>, Refusal>
+    requires { W.can_read reader.now }
+    ensures read { IfOk result (λ parts. IsRead (S.held shelf.old) (file_of Operand.Recording name.now) (joined parts.items)) }
+    ensures unread { IfErr result (IsUnread (file_of Operand.Recording name.now) (shelf_use S.held S.faults S.asked shelf.old shelf.new)) }
+    ensures named { IfOk result (λ parts. S.asked shelf.new ≡ S.asked shelf.old ++ name.now ∷ []) }
+    ensures named_unless { IfErr result (λ error. error ≢ refusal.Memory → S.asked shelf.new ≡ S.asked shelf.old ++ name.now ∷ []) }
+    ensures named_or_not { (S.asked shelf.new ≡ S.asked shelf.old ++ name.now ∷ []) ⊎ (S.asked shelf.new ≡ S.asked shelf.old) }
+    ensures kept { (other : List ℕ) → S.held shelf.new other ≡ S.held shelf.old other }
+    ensures later { S.faults shelf.old ≤ S.faults shelf.new }
+    ensures fault_named { FailsNamed (file_of Operand.Recording name.now ∷ []) (refusal_in result) (S.failed shelf.old) (S.failed shelf.new) }
+{
+    match reader.parts(alloc, name, RECORDING_BYTES, shelf) {
+        Ok(parts) => Ok(parts),
+        Err(error) => Err(read_refusal(Operand::Recording, error)),
+    }
+}
+
 /// Reads the script and the recording of these names, the latter by a reader, and answers what they ask for.
 fn read_job_by<S: Shelf, W: Reader>(
     alloc: Global,
@@ -69,11 +94,11 @@ fn read_job_by<S: Shelf, W: Reader>(
         Ok(text) => text,
         Err(refusal) => return Err(refusal),
     };
-    let bytes = match read_file(alloc, Operand::Recording, recording, shelf) {
-        Ok(bytes) => bytes,
+    let parts = match read_parts(alloc, reader, recording, shelf) {
+        Ok(parts) => parts,
         Err(refusal) => return Err(refusal),
     };
-    judge(alloc, reader, text.as_slice(), bytes)
+    judge(alloc, reader, text.as_slice(), parts)
 }
 
 /// Reads the script and the recording of these names, and answers what they ask for.
@@ -91,7 +116,8 @@ pub fn read_job<S: Shelf>(
     read_job_by(alloc, &OneThread, script, recording, shelf)
 }
 
-/// The same, where the entries of each CPU are read on a thread of its own, if threads can be started and the recording is large.
+/// The same, where the parts of the recording, and then the entries of each CPU, are read on a thread of their own, if threads can be started
+/// and the recording is large.
 pub fn read_job_on_threads<S: Shelf, R: Threads + Sync>(
     rt: &R,
     alloc: Global,
@@ -139,15 +165,15 @@ pub fn read_account_job<S: Shelf>(
         Ok(text) => text,
         Err(refusal) => return Err(refusal),
     };
-    let bytes = match read_file(alloc, Operand::Recording, recording, shelf) {
-        Ok(bytes) => bytes,
+    let parts = match read_parts(alloc, &OneThread, recording, shelf) {
+        Ok(parts) => parts,
         Err(refusal) => return Err(refusal),
     };
     let account = match read_file(alloc, Operand::Account, account, shelf) {
         Ok(account) => account,
         Err(refusal) => return Err(refusal),
     };
-    match judge(alloc, &OneThread, text.as_slice(), bytes) {
+    match judge(alloc, &OneThread, text.as_slice(), parts) {
         Ok(job) => Ok(AccountJob { job, account }),
         Err(refusal) => Err(refusal),
     }

@@ -1,5 +1,6 @@
 // What a script and a recording ask for.
 ghost use Rattle.std.specs.Prelude.{◌≡◌, ◌≤◌, length, IfOk, IfErr};
+ghost use Rattle.bt_io.specs.Parts.{joined};
 ghost use Rattle.bt_core.specs.declared.limits.TheConstants.{SCRIPT_BYTES};
 ghost use Rattle.bt_meaning.specs.Jobs.{IsJob};
 ghost use Rattle.recordings.specs.Places.{AreBytes};
@@ -12,6 +13,7 @@ use crate::reader::Reader;
 use crate::script::{attach_refusal, tree_of, type_refusal};
 use crate::sizes::programs_for;
 use bt_attach::attach::attach;
+use bt_core::items::Items;
 use bt_refusal::refusal::{Refusal, recording_refusal};
 use bt_types::script::check;
 use recordings::recording::Recording;
@@ -52,17 +54,17 @@ pub fn script_job(alloc: Global, script: &[u8], recording: Recording) -> Result<
     }
 }
 
-/// What a script and a recording ask for, of which nothing is refused. The recording is refused before the script is.
+/// What a script and a recording in parts ask for, of which nothing is refused. The recording is refused before the script is.
 fn accept<W: Reader>(
     alloc: Global,
     reader: &W,
     script: &[u8],
-    recording: Vec<u8>,
+    recording: Vec<Items<u8>>,
 ) -> Result<Job, Refusal>
     requires can { W.can_read reader.now }
     requires short { length script.now ≤ SCRIPT_BYTES }
-    ensures job { IfOk result (IsJobOf script.now recording.items) }
-    ensures refused { IfErr result (IsFaultRefusal script.now recording.items) }
+    ensures job { IfOk result (IsJobOf script.now (joined recording.items)) }
+    ensures refused { IfErr result (IsFaultRefusal script.now (joined recording.items)) }
 {
     match reader.read(alloc, recording) {
         Ok(recording) => script_job(alloc, script, recording),
@@ -75,21 +77,30 @@ fn are_bytes(bytes: &[u8])
     ensures { AreBytes bytes.now }
 {}
 
+/// Those of all parts are. The parts alone are gone over.
+fn parts_are_bytes(parts: &[Items<u8>])
+    ensures { AreBytes (joined parts.now) }
+{
+    for part in parts {
+        are_bytes(part.as_slice());
+    }
+}
+
 /// The same. Of what is due to them there is only one thing, so that comes unless memory runs out; and what they ask for can be run.
 pub(crate) fn judge<W: Reader>(
     alloc: Global,
     reader: &W,
     script: &[u8],
-    recording: Vec<u8>,
+    recording: Vec<Items<u8>>,
 ) -> Result<Job, Refusal>
     requires can { W.can_read reader.now }
     requires short { length script.now ≤ SCRIPT_BYTES }
-    ensures job { IfOk result (IsJobOf script.now recording.items) }
+    ensures job { IfOk result (IsJobOf script.now (joined recording.items)) }
     ensures can_run { IfOk result (λ job. IsJob job.typed job.attached job.recording) }
-    ensures refused { IfErr result (IsFaultRefusal script.now recording.items) }
-    ensures exact { IsExact script.now recording.items (refusal_in result) }
+    ensures refused { IfErr result (IsFaultRefusal script.now (joined recording.items)) }
+    ensures exact { IsExact script.now (joined recording.items) (refusal_in result) }
 {
-    are_bytes(recording.as_slice());
+    parts_are_bytes(recording.as_slice());
     rec_format::laws::one_recording();
     rec_format::laws::one_fault();
     bt_lexer::laws::one_answer();

@@ -44,10 +44,9 @@ pub track_part : (marks : Bool) (formats : List Format) (start end : ℕ) (bytes
 track_part marks formats start end bytes after rest head es fits some stand none =
     let taken = cpu_reads.takes bytes head after fits some in
     let all : List ℕ = entries_bytes (entries marks) es in
-    let behind : after ≡ all = stand.spelled ∙ ap (λ (l : List ℕ). all ++ l) none ∙ append-nil all in
-    (
+    let behind : after ≡ all = stand.spelled ∙ ap (λ (l : List ℕ). all ++ l) none ∙ append-nil all in (
       taken.0.parts ∙ ap (λ (l : List ℕ). cpu_bytes head ++ l) behind
-      ∙ ap (λ (n : ℕ). cpu_bytes (record { number = head.number; entries = n }) ++ all) (sym stand.counted),
+          ∙ ap (λ (n : ℕ). cpu_bytes (record { number = head.number; entries = n }) ++ all) (sym stand.counted),
       record { number = taken.1.number; entries = stand.pass },
     )
 
@@ -64,8 +63,7 @@ tracks_told front [] (c ∷ cs) same told = absurd (omega (arith, same))
 tracks_told front (p ∷ ps) [] same told = absurd (omega (arith, same))
 tracks_told front (p ∷ ps) (c ∷ cs) same told =
     let first : IsTrackPart front p c = told 0 None (omega arith) in
-    let rest = tracks_told front ps cs (omega (arith, same)) (λ i d lt. told (suc i) d (omega (arith, lt))) in
-    (
+    let rest = tracks_told front ps cs (omega (arith, same)) (λ i d lt. told (suc i) d (omega (arith, lt))) in (
       ap (λ (l : List ℕ). l ++ joined ps) first.spelled ∙ ap (λ (l : List ℕ). track_bytes (has_marks front.version) c ++ l) rest.0,
       (first.is, rest.1),
       both_bytes p (joined ps) first.held rest.2,

@@ -90,10 +90,7 @@ fn read_track(alloc: Global, front: &Front, part: &Arc<Vec<u8>, Global>) -> Opti
 }
 
 /// All CPUs, where each was read, their numbers rise, and they have no more entries than a recording may have.
-fn tracks_of(
-    alloc: Global,
-    read: Vec<Option<CpuTrack>>,
-) -> Result<Option<Items<CpuTrack>>, Memory>
+fn tracks_of(alloc: Global, read: Vec<Option<CpuTrack>>) -> Result<Option<Items<CpuTrack>>, Memory>
     ensures { IfOk result (λ all. IfSome all (AreGathered read.items)) }
 {
     let mut cpus = Items::new(alloc);
@@ -173,17 +170,6 @@ pub(crate) fn read_parted<R: Threads + Sync>(
         formats: front.formats.into_formats(),
         cpus,
     }))
-}
-
-/// The bytes of the one part, or none.
-pub(crate) fn only(alloc: Global, mut parts: Vec<Items<u8>>) -> Vec<u8>
-    requires { length parts.items < 2 }
-    ensures { result.items ≡ joined parts.items }
-{
-    match parts.pop() {
-        Some(part) => part.into_vec(),
-        None => Vec::new(alloc),
-    }
 }
 
 /// Parts, each of which can be shared.

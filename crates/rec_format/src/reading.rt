@@ -12,9 +12,10 @@ ghost use Rattle.recordings.specs.Places.{AreBytes};
 use crate::check::{has_marks, version_of};
 use crate::entries::Setting;
 use crate::formats::{read_formats, read_header};
-use crate::parted::{only, read_parted, shared, whole};
+use crate::parted::{read_parted, shared, whole};
 use crate::tracks::read_tracks;
 use bt_core::items::Items;
+use bt_io::parts::into_one;
 use recordings::error::RecordingError;
 use recordings::recording::Recording;
 use std::alloc::Global;
@@ -69,7 +70,7 @@ pub fn read_recording_on_threads<R: Threads + Sync>(
     ensures refused { (e : RecordingError) → IsRecordingFault (joined parts.items) e → (result ≡ Err e) ⊎ (result ≡ Err RecordingError.Memory) }
 {
     if parts.len() < 2 {
-        return read_recording(alloc, only(alloc, parts));
+        return read_recording(alloc, into_one(alloc, parts)?);
     }
     let files = shared(alloc, parts)?;
     match read_parted(rt, alloc, files.as_slice())? {

@@ -12,15 +12,19 @@ const HEADER_BYTES: u64 = 32;
 
 /// Where a header tells the last digit of the version, the number of CPUs and that of formats.
 const VERSION_AT: u64 = 7;
+
 const CPUS_AT: u64 = 8;
+
 const FORMATS_AT: u64 = 12;
 
 /// Bytes of the head of a CPU, and where it tells how many entries follow.
 const HEAD_BYTES: u64 = 8;
+
 const COUNT_AT: u64 = 4;
 
 /// Bytes of an event before its payload, and where the length of that is told.
 const EVENT_BYTES: u64 = 44;
+
 const LENGTH_AT: u64 = 40;
 
 /// Bytes of a mark, with the byte that tells its kind.

@@ -1,9 +1,14 @@
-// Recordings of more than a megabyte, on one thread and on many: both answer the same, and of two faults that which comes first in the
-// order of the bytes.
-ghost use Rattle.std.specs.Prelude.{IfOk};
+// Recordings of more than a megabyte, whole on one thread and in parts on many: both answer the same, and of two faults that which comes
+// first in the order of the bytes.
+ghost use Rattle.std.specs.Prelude.{◌≤◌, length, IfOk, IfSome};
 ghost use Rattle.recordings.specs.Recordings.{IsValidRecording};
 
+use bt_core::items::Items;
+use bt_core::memory::Memory;
+use bt_io::parts::{Cutter, Peek};
+use byteorder::{ByteOrder, LittleEndian};
 use rec_format::reading::{read_recording, read_recording_on_threads};
+use rec_format::sections::BeforeCpus;
 use rec_format::writing::write_recording;
 use recordings::error::RecordingError;
 use recordings::recording::Recording;
@@ -162,16 +167,98 @@ fn is_read(alloc: Global, row: &Row, file: &[u8]) -> Result<bool, Fail> {
     Ok(is_told(row, file, told.as_slice()))
 }
 
-/// The same on many threads.
+/// A file in memory, whose numbers are looked at.
+#[derive(Drop)]
+struct Whole<'f> {
+    bytes: &'f [u8],
+}
+
+impl Whole<'_> {
+    /// The bytes from a place on, if there are so many.
+    fn from(&self, at: u64, count: usize) -> Option<&[u8]>
+        ensures { IfSome result (λ bytes. count ≤ length bytes.now) }
+    {
+        let Ok(start) = usize::try_from(at) else {
+            return None;
+        };
+        if start <= self.bytes.len() && count <= self.bytes.len() - start {
+            Some(&self.bytes[start..])
+        } else {
+            None
+        }
+    }
+}
+
+impl Peek for Whole<'_> {
+    fn u8_at(&mut self, at: u64) -> Option<u8> {
+        match self.from(at, 1) {
+            Some(bytes) => Some(bytes[0]),
+            None => None,
+        }
+    }
+
+    fn u16_at(&mut self, at: u64) -> Option<u16> {
+        match self.from(at, 2) {
+            Some(bytes) => Some(LittleEndian::read_u16(bytes)),
+            None => None,
+        }
+    }
+
+    fn u32_at(&mut self, at: u64) -> Option<u32> {
+        match self.from(at, 4) {
+            Some(bytes) => Some(LittleEndian::read_u32(bytes)),
+            None => None,
+        }
+    }
+}
+
+/// A file in parts that begin at these places, as far as they rise and lie within it.
+fn parts_of(alloc: Global, file: &[u8], cuts: &[u64]) -> Result<Vec<Items<u8>>, Memory> {
+    let mut parts = Vec::new(alloc);
+    let mut from = 0usize;
+    for cut in cuts {
+        let cut = usize::try_from(*cut)?;
+        if from <= cut && cut <= file.len() {
+            parts.push(Items::from_slice(alloc, &file[from..cut])?)?;
+            from = cut;
+        }
+    }
+    if from <= file.len() {
+        parts.push(Items::from_slice(alloc, &file[from..])?)?;
+    }
+    Ok(parts)
+}
+
+/// Whether a row's file, cut at these places and read on many threads, is told of as the row says.
 fn is_read_on_threads<R: Threads + Sync>(
     rt: &R,
     alloc: Global,
     row: &Row,
     file: &[u8],
+    cuts: &[u64],
 ) -> Result<bool, Fail> {
-    let bytes = Vec::from_slice(alloc, file)?;
-    let told = told(alloc, read_recording_on_threads(rt, alloc, bytes))?;
+    let parts = parts_of(alloc, file, cuts)?;
+    let told = told(alloc, read_recording_on_threads(rt, alloc, parts))?;
     Ok(is_told(row, file, told.as_slice()))
+}
+
+/// Where the heads of the CPUs lie, by the lengths in a file.
+fn heads_of(alloc: Global, file: &[u8]) -> Result<Vec<u64>, Memory> {
+    BeforeCpus.cuts(alloc, &mut Whole { bytes: file })
+}
+
+/// The places of the heads in a file whose lengths are right.
+const HEADS: [u64; 3] = [61, 384_069, 768_077];
+
+/// Other places: none, a part too many, and parts that end within a CPU.
+const OTHER_CUTS: [&[u64]; 3] = [&[], &[61, 61, 384_069, 768_077], &[61, 384_070, 768_077]];
+
+#[test]
+fn the_heads_of_cpus_are_found(rt: HostRuntime) -> Result<(), Fail> {
+    let file = file_of(rt.alloc(), &ROWS[0])?;
+    let heads = heads_of(rt.alloc(), file.as_slice())?;
+    assert!(rt; heads.as_slice() == HEADS.as_slice());
+    Ok(())
 }
 
 #[test]
@@ -179,7 +266,17 @@ fn many_threads_answer_as_one_does(rt: HostRuntime) -> Result<(), Fail> {
     for row in &ROWS {
         let file = file_of(rt.alloc(), row)?;
         assert!(rt; is_read(rt.alloc(), row, file.as_slice())?);
-        assert!(rt; is_read_on_threads(&rt, rt.alloc(), row, file.as_slice())?);
+        let heads = heads_of(rt.alloc(), file.as_slice())?;
+        assert!(rt; is_read_on_threads(&rt, rt.alloc(), row, file.as_slice(), heads.as_slice())?);
+    }
+    Ok(())
+}
+
+#[test]
+fn other_parts_are_put_together(rt: HostRuntime) -> Result<(), Fail> {
+    let file = file_of(rt.alloc(), &ROWS[0])?;
+    for cuts in &OTHER_CUTS {
+        assert!(rt; is_read_on_threads(&rt, rt.alloc(), &ROWS[0], file.as_slice(), *cuts)?);
     }
     Ok(())
 }

@@ -1,10 +1,10 @@
 // Recordings by their parts, files under their names, and calls over them.
 use bt_core::memory::Memory;
-use bt_io::mem_shelf::MemShelf;
-use bt_io::mem_sink::MemSink;
 use bt_io::shelf::Shelf;
 use bt_top::report::Report;
 use bt_top::serve::serve;
+use mem_io::mem_shelf::MemShelf;
+use mem_io::mem_sink::MemSink;
 use std::alloc::Global;
 use std::sync::Wait;
 use std::thread::Threads;

@@ -5,10 +5,10 @@ use crate::files::{AT_0, AT_1, AT_2, HEAD, REST, VALUE, answer_over, files, join
 use crate::machine::instructions_of;
 use bt_core::items::Items;
 use bt_core::memory::Memory;
-use bt_io::mem_shelf::MemShelf;
-use bt_io::mem_sink::MemSink;
 use bt_io::shelf::{Shelf, ShelfError};
 use bt_top::report::Report;
+use mem_io::mem_shelf::MemShelf;
+use mem_io::mem_sink::MemSink;
 use std::alloc::Global;
 use std::test::Fail;
 use turn_lock::gate::Open;

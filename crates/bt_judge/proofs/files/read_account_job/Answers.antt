@@ -1,5 +1,6 @@
 use Rattle.std.proofs.Common.{[], ◌∷◌, refl, ◌∙◌}
 use Rattle.std.specs.Prelude.{Ok, Err}
+use Rattle.bt_io.specs.Parts.{joined}
 use Rattle.bt_refusal.specs.declared.refusal.Operand.TheVariants.{Script, Recording, Account}
 use Rattle.bt_judge.specs.declared.files.AccountJob.{AccountJob}
 use Rattle.bt_judge.specs.Doing.{IsRead}
@@ -21,87 +22,87 @@ returns-in-Err-clause-fault_named g c =
     failed_among (on_account c.args.script.now c.args.recording.now c.args.account.now) (file_of Script c.args.script.now) seen c.in-Err.refusal _ _ refl
     c.in-Err.ensures.unread c.in-Err.ensures.fault_named
 
+pub returns-in-Err-read_parts-clause-performs : goal.returns-in-Err-read_parts-clause-performs
+returns-in-Err-read_parts-clause-performs g c =
+    let seen = shelf_use g.S.Shelf.held g.S.Shelf.faults g.S.Shelf.asked c.args.shelf.now c.read_parts.new.shelf in
+    let between = shelf_use g.S.Shelf.held g.S.Shelf.faults g.S.Shelf.asked c.read_file.new.shelf c.read_parts.new.shelf in
+    file_unread seen (file_of Recording c.args.recording.now) (file_of Account c.args.account.now ∷ []) (file_of Script c.args.script.now ∷ [])
+    (c.in-Ok.text.items ∷ []) c.in-Err-read_parts.refusal (c.in-Ok.ensures.read, tt) ((λ e. cc, (λ e. cc, tt)), tt)
+    (unread_from seen between (file_of Recording c.args.recording.now) c.in-Err-read_parts.refusal c.read_file.ensures.kept c.read_file.ensures.later refl
+    c.in-Err-read_parts.ensures.unread) _
+    (λ known. two_asked _ _ _ (c.args.script.now ∷ []) c.args.recording.now c.in-Ok.ensures.named (c.in-Err-read_parts.ensures.named_unless known))
+    (named_next _ _ _ (c.args.script.now ∷ []) c.args.recording.now c.in-Ok.ensures.named c.read_parts.ensures.named_or_not)
+
+pub returns-in-Err-read_parts-clause-fault_named : goal.returns-in-Err-read_parts-clause-fault_named
+returns-in-Err-read_parts-clause-fault_named g c =
+    let between = shelf_use g.S.Shelf.held g.S.Shelf.faults g.S.Shelf.asked c.read_file.new.shelf c.read_parts.new.shelf in
+    failed_later (on_account c.args.script.now c.args.recording.now c.args.account.now) _ _ _ c.in-Err-read_parts.refusal c.in-Ok.ensures.fault_named
+    (failed_among (on_account c.args.script.now c.args.recording.now c.args.account.now) (file_of Recording c.args.recording.now) between
+    c.in-Err-read_parts.refusal _ _ refl c.in-Err-read_parts.ensures.unread c.in-Err-read_parts.ensures.fault_named)
+
 pub returns-in-Err-read_file-clause-performs : goal.returns-in-Err-read_file-clause-performs
 returns-in-Err-read_file-clause-performs g c =
+    let held = g.S.Shelf.held c.args.shelf.now in
     let seen = shelf_use g.S.Shelf.held g.S.Shelf.faults g.S.Shelf.asked c.args.shelf.now c.read_file-2.new.shelf in
-    let between = shelf_use g.S.Shelf.held g.S.Shelf.faults g.S.Shelf.asked c.read_file.new.shelf c.read_file-2.new.shelf in
-    file_unread seen (file_of Recording c.args.recording.now) (file_of Account c.args.account.now ∷ []) (file_of Script c.args.script.now ∷ [])
-    (c.in-Ok.text.items ∷ []) c.in-Err-read_file.refusal (c.in-Ok.ensures.read, tt) ((λ e. cc, (λ e. cc, tt)), tt)
-    (unread_from seen between (file_of Recording c.args.recording.now) c.in-Err-read_file.refusal c.read_file.ensures.kept c.read_file.ensures.later refl
-    c.in-Err-read_file.ensures.unread) _
-    (λ known. two_asked _ _ _ (c.args.script.now ∷ []) c.args.recording.now c.in-Ok.ensures.named (c.in-Err-read_file.ensures.named_unless known))
-    (named_next _ _ _ (c.args.script.now ∷ []) c.args.recording.now c.in-Ok.ensures.named c.read_file-2.ensures.named_or_not)
+    let middle = shelf_use g.S.Shelf.held g.S.Shelf.faults g.S.Shelf.asked c.read_file.new.shelf c.read_file-2.new.shelf in
+    let between = shelf_use g.S.Shelf.held g.S.Shelf.faults g.S.Shelf.asked c.read_parts.new.shelf c.read_file-2.new.shelf in
+    let second : IsRead held (file_of Recording c.args.recording.now) (joined c.in-Ok-read_parts.parts.items) =
+    read_from held (g.S.Shelf.held c.read_file.new.shelf) (file_of Recording c.args.recording.now) (joined c.in-Ok-read_parts.parts.items)
+    c.read_file.ensures.kept c.in-Ok-read_parts.ensures.read in
+    let both = two_asked _ _ _ (c.args.script.now ∷ []) c.args.recording.now c.in-Ok.ensures.named c.in-Ok-read_parts.ensures.named in
+    file_unread seen (file_of Account c.args.account.now) [] (file_of Script c.args.script.now ∷ file_of Recording c.args.recording.now ∷ [])
+    (c.in-Ok.text.items ∷ (joined c.in-Ok-read_parts.parts.items) ∷ []) c.in-Err-read_file.refusal (c.in-Ok.ensures.read, (second, tt))
+    ((λ e. cc, tt), ((λ e. cc, tt), tt))
+    (unread_from seen middle (file_of Account c.args.account.now) c.in-Err-read_file.refusal c.read_file.ensures.kept c.read_file.ensures.later refl
+    (unread_from middle between (file_of Account c.args.account.now) c.in-Err-read_file.refusal c.read_parts.ensures.kept c.read_parts.ensures.later refl
+    c.in-Err-read_file.ensures.unread)) _
+    (λ known. two_asked _ _ _ (c.args.script.now ∷ c.args.recording.now ∷ []) c.args.account.now both (c.in-Err-read_file.ensures.named_unless known))
+    (named_next _ _ _ (c.args.script.now ∷ c.args.recording.now ∷ []) c.args.account.now both c.read_file-2.ensures.named_or_not)
 
 pub returns-in-Err-read_file-clause-fault_named : goal.returns-in-Err-read_file-clause-fault_named
 returns-in-Err-read_file-clause-fault_named g c =
-    let between = shelf_use g.S.Shelf.held g.S.Shelf.faults g.S.Shelf.asked c.read_file.new.shelf c.read_file-2.new.shelf in
-    failed_later (on_account c.args.script.now c.args.recording.now c.args.account.now) _ _ _ c.in-Err-read_file.refusal c.in-Ok.ensures.fault_named
-    (failed_among (on_account c.args.script.now c.args.recording.now c.args.account.now) (file_of Recording c.args.recording.now) between
-    c.in-Err-read_file.refusal _ _ refl c.in-Err-read_file.ensures.unread c.in-Err-read_file.ensures.fault_named)
-
-pub returns-in-Err-read_file-2-clause-performs : goal.returns-in-Err-read_file-2-clause-performs
-returns-in-Err-read_file-2-clause-performs g c =
-    let held = g.S.Shelf.held c.args.shelf.now in
-    let seen = shelf_use g.S.Shelf.held g.S.Shelf.faults g.S.Shelf.asked c.args.shelf.now c.read_file-3.new.shelf in
-    let middle = shelf_use g.S.Shelf.held g.S.Shelf.faults g.S.Shelf.asked c.read_file.new.shelf c.read_file-3.new.shelf in
-    let between = shelf_use g.S.Shelf.held g.S.Shelf.faults g.S.Shelf.asked c.read_file-2.new.shelf c.read_file-3.new.shelf in
-    let second : IsRead held (file_of Recording c.args.recording.now) c.in-Ok-read_file.bytes.items =
-    read_from held (g.S.Shelf.held c.read_file.new.shelf) (file_of Recording c.args.recording.now) c.in-Ok-read_file.bytes.items
-    c.read_file.ensures.kept c.in-Ok-read_file.ensures.read in
-    let both = two_asked _ _ _ (c.args.script.now ∷ []) c.args.recording.now c.in-Ok.ensures.named c.in-Ok-read_file.ensures.named in
-    file_unread seen (file_of Account c.args.account.now) [] (file_of Script c.args.script.now ∷ file_of Recording c.args.recording.now ∷ [])
-    (c.in-Ok.text.items ∷ c.in-Ok-read_file.bytes.items ∷ []) c.in-Err-read_file-2.refusal (c.in-Ok.ensures.read, (second, tt))
-    ((λ e. cc, tt), ((λ e. cc, tt), tt))
-    (unread_from seen middle (file_of Account c.args.account.now) c.in-Err-read_file-2.refusal c.read_file.ensures.kept c.read_file.ensures.later refl
-    (unread_from middle between (file_of Account c.args.account.now) c.in-Err-read_file-2.refusal c.read_file-2.ensures.kept c.read_file-2.ensures.later refl
-    c.in-Err-read_file-2.ensures.unread)) _
-    (λ known. two_asked _ _ _ (c.args.script.now ∷ c.args.recording.now ∷ []) c.args.account.now both (c.in-Err-read_file-2.ensures.named_unless known))
-    (named_next _ _ _ (c.args.script.now ∷ c.args.recording.now ∷ []) c.args.account.now both c.read_file-3.ensures.named_or_not)
-
-pub returns-in-Err-read_file-2-clause-fault_named : goal.returns-in-Err-read_file-2-clause-fault_named
-returns-in-Err-read_file-2-clause-fault_named g c =
-    let between = shelf_use g.S.Shelf.held g.S.Shelf.faults g.S.Shelf.asked c.read_file-2.new.shelf c.read_file-3.new.shelf in
-    failed_later (on_account c.args.script.now c.args.recording.now c.args.account.now) _ _ _ c.in-Err-read_file-2.refusal
-    (c.in-Ok-read_file.ensures.fault_named ∙ c.in-Ok.ensures.fault_named)
+    let between = shelf_use g.S.Shelf.held g.S.Shelf.faults g.S.Shelf.asked c.read_parts.new.shelf c.read_file-2.new.shelf in
+    failed_later (on_account c.args.script.now c.args.recording.now c.args.account.now) _ _ _ c.in-Err-read_file.refusal
+    (c.in-Ok-read_parts.ensures.fault_named ∙ c.in-Ok.ensures.fault_named)
     (failed_among (on_account c.args.script.now c.args.recording.now c.args.account.now) (file_of Account c.args.account.now) between
-    c.in-Err-read_file-2.refusal _ _ refl c.in-Err-read_file-2.ensures.unread c.in-Err-read_file-2.ensures.fault_named)
+    c.in-Err-read_file.refusal _ _ refl c.in-Err-read_file.ensures.unread c.in-Err-read_file.ensures.fault_named)
 
 pub returns-in-Ok-judge-clause-performs : goal.returns-in-Ok-judge-clause-performs
 returns-in-Ok-judge-clause-performs g c =
     let held = g.S.Shelf.held c.args.shelf.now in
-    let text = c.as_slice.result.now in let bytes = c.in-Ok-read_file.bytes.items in let account = c.in-Ok-read_file-2.account.items in
+    let text = c.as_slice.result.now in let bytes = joined c.in-Ok-read_parts.parts.items in let account = c.in-Ok-read_file.account.items in
     let first : IsRead held (file_of Script c.args.script.now) text = rw c.as_slice.ensures.value c.in-Ok.ensures.read in
     let second : IsRead held (file_of Recording c.args.recording.now) bytes =
-    read_from held (g.S.Shelf.held c.read_file.new.shelf) (file_of Recording c.args.recording.now) bytes c.read_file.ensures.kept c.in-Ok-read_file.ensures.read in
+    read_from held (g.S.Shelf.held c.read_file.new.shelf) (file_of Recording c.args.recording.now) bytes c.read_file.ensures.kept c.in-Ok-read_parts.ensures.read in
     let third : IsRead held (file_of Account c.args.account.now) account =
     read_from held (g.S.Shelf.held c.read_file.new.shelf) (file_of Account c.args.account.now) account c.read_file.ensures.kept
-    (read_from (g.S.Shelf.held c.read_file.new.shelf) (g.S.Shelf.held c.read_file-2.new.shelf) (file_of Account c.args.account.now) account
-    c.read_file-2.ensures.kept c.in-Ok-read_file-2.ensures.read) in
+    (read_from (g.S.Shelf.held c.read_file.new.shelf) (g.S.Shelf.held c.read_parts.new.shelf) (file_of Account c.args.account.now) account
+    c.read_parts.ensures.kept c.in-Ok-read_file.ensures.read) in
     all_read _ (file_of Script c.args.script.now) (file_of Recording c.args.recording.now ∷ file_of Account c.args.account.now ∷ [])
     (text ∷ bytes ∷ account ∷ []) (first, (second, (third, tt))) (Ok _) _
     (record { job = record { short = (first.fits, (second.fits, (third.fits, tt))); of = c.in-Ok-judge.ensures.job }; account = refl })
     tt c.in-Ok-judge.ensures.exact
     (two_asked _ _ _ (c.args.script.now ∷ c.args.recording.now ∷ []) c.args.account.now
-    (two_asked _ _ _ (c.args.script.now ∷ []) c.args.recording.now c.in-Ok.ensures.named c.in-Ok-read_file.ensures.named) c.in-Ok-read_file-2.ensures.named)
+    (two_asked _ _ _ (c.args.script.now ∷ []) c.args.recording.now c.in-Ok.ensures.named c.in-Ok-read_parts.ensures.named) c.in-Ok-read_file.ensures.named)
 
 pub returns-clause-performs : goal.returns-clause-performs
 returns-clause-performs g c =
     let held = g.S.Shelf.held c.args.shelf.now in
-    let text = c.as_slice.result.now in let bytes = c.in-Ok-read_file.bytes.items in let account = c.in-Ok-read_file-2.account.items in
+    let text = c.as_slice.result.now in let bytes = joined c.in-Ok-read_parts.parts.items in let account = c.in-Ok-read_file.account.items in
     let first : IsRead held (file_of Script c.args.script.now) text = rw c.as_slice.ensures.value c.in-Ok.ensures.read in
     let second : IsRead held (file_of Recording c.args.recording.now) bytes =
-    read_from held (g.S.Shelf.held c.read_file.new.shelf) (file_of Recording c.args.recording.now) bytes c.read_file.ensures.kept c.in-Ok-read_file.ensures.read in
+    read_from held (g.S.Shelf.held c.read_file.new.shelf) (file_of Recording c.args.recording.now) bytes c.read_file.ensures.kept c.in-Ok-read_parts.ensures.read in
     let third : IsRead held (file_of Account c.args.account.now) account =
     read_from held (g.S.Shelf.held c.read_file.new.shelf) (file_of Account c.args.account.now) account c.read_file.ensures.kept
-    (read_from (g.S.Shelf.held c.read_file.new.shelf) (g.S.Shelf.held c.read_file-2.new.shelf) (file_of Account c.args.account.now) account
-    c.read_file-2.ensures.kept c.in-Ok-read_file-2.ensures.read) in
+    (read_from (g.S.Shelf.held c.read_file.new.shelf) (g.S.Shelf.held c.read_parts.new.shelf) (file_of Account c.args.account.now) account
+    c.read_parts.ensures.kept c.in-Ok-read_file.ensures.read) in
     all_read _ (file_of Script c.args.script.now) (file_of Recording c.args.recording.now ∷ file_of Account c.args.account.now ∷ [])
     (text ∷ bytes ∷ account ∷ []) (first, (second, (third, tt))) (Err c.in-Err-judge.refusal) _ tt c.in-Err-judge.ensures.refused c.in-Err-judge.ensures.exact
     (two_asked _ _ _ (c.args.script.now ∷ c.args.recording.now ∷ []) c.args.account.now
-    (two_asked _ _ _ (c.args.script.now ∷ []) c.args.recording.now c.in-Ok.ensures.named c.in-Ok-read_file.ensures.named) c.in-Ok-read_file-2.ensures.named)
+    (two_asked _ _ _ (c.args.script.now ∷ []) c.args.recording.now c.in-Ok.ensures.named c.in-Ok-read_parts.ensures.named) c.in-Ok-read_file.ensures.named)
 
 pub returns-clause-fault_named : goal.returns-clause-fault_named
 returns-clause-fault_named g c =
-    judged_failed {A = AccountJob} (on_account c.args.script.now c.args.recording.now c.args.account.now) c.as_slice.result.now c.in-Ok-read_file.bytes.items _ _
+    judged_failed {A = AccountJob} (on_account c.args.script.now c.args.recording.now c.args.account.now) c.as_slice.result.now (joined c.in-Ok-read_parts.parts.items) _ _
     (Err c.in-Err-judge.refusal) c.in-Err-judge.ensures.refused
-    (c.in-Ok-read_file-2.ensures.fault_named ∙ (c.in-Ok-read_file.ensures.fault_named ∙ c.in-Ok.ensures.fault_named))
+    (c.in-Ok-read_file.ensures.fault_named ∙ (c.in-Ok-read_parts.ensures.fault_named ∙ c.in-Ok.ensures.fault_named))

@@ -8,10 +8,10 @@ use Rattle.rec_format.proofs.UniqueLaws.{answer_only, answer_refused}
 use Rattle.rec_format.proofs.reading.read_recording_on_threads.Goals as goal
 
 pub returns-then-len-lt2-clause-fault : goal.returns-then-len-lt2-clause-fault
-returns-then-len-lt2-clause-fault g c = rw (← c.only.ensures) c.read_recording.ensures.fault
+returns-then-len-lt2-clause-fault g c = rw (← c.in_ok-into_one.ensures) c.read_recording.ensures.fault
 
 pub returns-then-len-lt2-clause-refused : goal.returns-then-len-lt2-clause-refused
-returns-then-len-lt2-clause-refused g c = rw (← c.only.ensures) c.read_recording.ensures.refused
+returns-then-len-lt2-clause-refused g c = rw (← c.in_ok-into_one.ensures) c.read_recording.ensures.refused
 
 -- the bytes of the files are those of the parts
 same_bytes : (files : List (Arc (Vec ℕ Global) Global)) (slice : List (Arc (Vec ℕ Global) Global)) (parts : List (List ℕ)) → slice ≡ files → shared_bytes files ≡ parts
@@ -38,11 +38,11 @@ returns-in-Some-clause-refused g c =
 pub returns-clause-fault : goal.returns-clause-fault
 returns-clause-fault g c =
     let same = c.in_ok-whole-in-None.ensures
-        ∙ same_bytes c.in_ok-files.files.items c.as_slice-in-None.result.now c.args.parts.items c.as_slice-in-None.ensures.value c.in_ok-files.ensures in
+    ∙ same_bytes c.in_ok-files.files.items c.as_slice-in-None.result.now c.args.parts.items c.as_slice-in-None.ensures.value c.in_ok-files.ensures in
     rw (← same) c.read_recording-in-None.ensures.fault
 
 pub returns-clause-refused : goal.returns-clause-refused
 returns-clause-refused g c =
     let same = c.in_ok-whole-in-None.ensures
-        ∙ same_bytes c.in_ok-files.files.items c.as_slice-in-None.result.now c.args.parts.items c.as_slice-in-None.ensures.value c.in_ok-files.ensures in
+    ∙ same_bytes c.in_ok-files.files.items c.as_slice-in-None.result.now c.args.parts.items c.as_slice-in-None.ensures.value c.in_ok-files.ensures in
     rw (← same) c.read_recording-in-None.ensures.refused

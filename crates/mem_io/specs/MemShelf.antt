@@ -2,7 +2,8 @@
 use Rattle.std.specs.Prelude.{ℕ, if◌then◌else◌, nat_le, List, length, find, Option, None, Some, Result, Ok, Err, String, string_bytes, bytes_eq, Vec}
 use Rattle.std.specs.Option.{option_map}
 use Rattle.std.specs.declared.alloc.Global.{Global}
-use Rattle.bt_io.specs.Calls.{one_more, is_listed}
+use Rattle.bt_io.specs.Calls.{one_more}
+use Rattle.mem_io.specs.Calls.{is_listed}
 use Rattle.bt_io.specs.declared.shelf.ShelfError.{ShelfError}
 use Rattle.bt_io.specs.declared.shelf.ShelfError.TheVariants.{Failed, TooLong}
 

@@ -1,8 +1,8 @@
 use Rattle.std.proofs.Common.{◌≡◌, ℕ, suc, ◌+◌, ◌<◌, List, ◌∷◌, true, false, length, map, drop, get_or, add-one, drop-cons, sym, ap, ◌∙◌, arith}
 use Rattle.std.specs.Prelude.{String, Vec, Some, string_bytes, bytes_eq}
 use Rattle.std.specs.declared.alloc.Global.{Global}
-use Rattle.bt_io.specs.MemShelf.{file_of, file_named}
-use Rattle.bt_io.proofs.mem_shelf.find.Goals as goal
+use Rattle.mem_io.specs.MemShelf.{file_of, file_named}
+use Rattle.mem_io.proofs.mem_shelf.find.Goals as goal
 
 -- the search at a file
 first_is : (name : List ℕ) (files : List (String Global × Vec ℕ Global)) (i : ℕ) (file : String Global × Vec ℕ Global) → i < length files → file ≡ get_or files i file → file_named name (map file_of (drop i files)) ≡ file_named name (map file_of (file ∷ drop (i + 1) files))

@@ -1,6 +1,7 @@
 -- A sink that holds the bytes that it took.
 use Rattle.std.specs.Prelude.{ℕ, ◌-◌, List, length, min, Bool, ◌==◌, ◌||◌}
-use Rattle.bt_io.specs.Calls.{one_more, is_listed}
+use Rattle.bt_io.specs.Calls.{one_more}
+use Rattle.mem_io.specs.Calls.{is_listed}
 
 -- a sink in memory: the bytes taken, the calls that took bytes with how many each was offered and took, how many bytes
 -- it can take in all and in one call, the numbers of the calls that fail, and how many calls and how many faults there were

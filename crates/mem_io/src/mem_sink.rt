@@ -3,12 +3,12 @@ ghost use Rattle.std.specs.Prelude.{◌≡◌, ◌<◌, ◌≤◌, ◌++◌, ◌
 ghost use Rattle.std.specs.Io.KnownBytes.{WriteAppends};
 ghost use Rattle.bt_io.specs.Calls.{one_more};
 ghost use Rattle.bt_io.specs.Faults.{Rose};
-ghost use Rattle.bt_io.specs.MemSink.{next_fails, takes};
+ghost use Rattle.mem_io.specs.MemSink.{next_fails, takes};
 ghost use Rattle.bt_io.specs.Offers.{TellsOffer};
 
 use crate::calls::is_among;
-use crate::sink::{Sink, SinkFailed};
 use bt_core::memory::Memory;
+use bt_io::sink::{Sink, SinkFailed};
 use std::alloc::Global;
 use std::marker::Model;
 
@@ -45,7 +45,7 @@ impl Drop for MemSink {
 
 impl Model for MemSink {
     ghost use Rattle.std.specs.Prelude.{◌≤◌, ◌<◌, vec_len, vec_capacity};
-    ghost use Rattle.bt_io.specs.MemSink.{SinkState};
+    ghost use Rattle.mem_io.specs.MemSink.{SinkState};
 
     ghost Value = { SinkState };
 

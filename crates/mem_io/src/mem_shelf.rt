@@ -3,12 +3,12 @@ ghost use Rattle.std.specs.Prelude.{◌≡◌, ◌<◌, ◌≤◌, ◌++◌, ◌
 ghost use Rattle.std.specs.Option.{option_copied};
 ghost use Rattle.bt_io.specs.Calls.{one_more};
 ghost use Rattle.bt_io.specs.Faults.{Rose};
-ghost use Rattle.bt_io.specs.MemShelf.{file_of, file_named, bytes_within, reads_of};
+ghost use Rattle.mem_io.specs.MemShelf.{file_of, file_named, bytes_within, reads_of};
 
 use crate::calls::is_among;
-use crate::names::note;
-use crate::shelf::{Shelf, ShelfError};
 use bt_core::items::Items;
+use bt_io::names::note;
+use bt_io::shelf::{Shelf, ShelfError};
 use std::alloc::Global;
 use std::marker::Model;
 
@@ -43,7 +43,7 @@ impl Drop for MemShelf {
 
 impl Model for MemShelf {
     ghost use Rattle.std.specs.Prelude.{map};
-    ghost use Rattle.bt_io.specs.MemShelf.{ShelfState, file_of};
+    ghost use Rattle.mem_io.specs.MemShelf.{ShelfState, file_of};
 
     ghost Value = { ShelfState };
 
