@@ -1,2 +1,3 @@
 mod ProgramCalls
 mod StepCalls
+mod WalkCalls

@@ -19,8 +19,8 @@ use Rattle.actor_plan.proofs.AskLaws.{program_asks, begin_asks, cpu_asks, end_as
 use Rattle.bt_meaning.specs.Jobs.{IsJob}
 use Rattle.bt_meaning.specs.Walks.{walked, walking, replay_of}
 use Rattle.begun_lists.specs.Begun.{program_of}
-use Rattle.walk_calls.specs.Calls.{IsWalkCall, OnlyCalls}
-use Rattle.walk_calls.proofs.WalkCalls.{only-then, walk_calls}
+use Rattle.program_calls.specs.WalkCalls.{IsWalkCall, OnlyCalls}
+use Rattle.program_calls.proofs.WalkCalls.{only-then, walk_calls}
 use Rattle.program_calls.specs.Calls.{IsProgramCall}
 
 -- a call of a walk is one of a program

@@ -1,4 +1,5 @@
-//! What calls the programs of a script's actors make.
+//! What calls the walks of bodies make, and so the programs of a script's actors.
 #![tactic(auto)]
 
 pub mod laws;
+pub mod walk_laws;
