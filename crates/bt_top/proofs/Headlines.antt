@@ -24,7 +24,7 @@ use Rattle.bt_words.specs.declared.order.Order.{Order}
 use Rattle.bt_words.specs.declared.order.Order.TheVariants.{Run, Check, Code, Vet, Account, Verify, Gen, Big}
 use Rattle.run_base.specs.declared.job.Job.{Job}
 use Rattle.run_base.specs.declared.job.Work.{Work}
-use Rattle.run_laws.specs.Reads.{AddsAreOwn, ReadsSeeBeginnings}
+use Rattle.total_laws.specs.Reads.{AddsAreOwn, ReadsSeeBeginnings}
 use Rattle.run_output.specs.declared.form.Form.{Form}
 use Rattle.run_output.specs.declared.form.Form.TheVariants.{Text}
 use Rattle.recordings.specs.declared.recording.Recording.{Recording as Recorded}

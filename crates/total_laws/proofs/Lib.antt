@@ -17,3 +17,6 @@ pub mod Exact
 pub mod MapEnds
 pub mod SameEnds
 pub mod TickReads
+mod Leaving
+mod ReadLemmas
+mod OwnAdds

@@ -8,7 +8,7 @@ ghost use Rattle.bt_meaning.specs.Interleavings.{IsInterleaving};
 ghost use Rattle.bt_meaning.specs.Jobs.{IsJob};
 ghost use Rattle.bt_meaning.specs.Replays.{Replay};
 ghost use Rattle.bt_meaning.specs.Walks.{replay_of};
-ghost use Rattle.run_laws.specs.Reads.{AddsAreOwn, ReadsSeeBeginnings};
+ghost use Rattle.total_laws.specs.Reads.{AddsAreOwn, ReadsSeeBeginnings};
 
 /// In an interleaving, a read at an actor's tables sees a beginning of all that the actor adds there, and an earlier read there saw no
 /// more. Its reply is the answer after what was added, cleared and zeroed there before it; earlier reads change nothing. So a read at

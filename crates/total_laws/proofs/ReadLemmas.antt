@@ -17,8 +17,8 @@ use Rattle.agg_core.specs.Answers.{table_change, table_answer, back, agg_kind_in
 use Rattle.agg_core.specs.Changes.{Leaves, rows_of}
 use Rattle.bt_meaning.specs.Interleavings.{IsInterleaving}
 use Rattle.bt_meaning.specs.Replays.{Replay, answers_of}
-use Rattle.run_laws.specs.Reads.{is_add, is_read, add_steps_of, BeginsWith, SeesBeginning}
-use Rattle.run_laws.proofs.Leaving.{counts, rows_are}
+use Rattle.total_laws.specs.Reads.{is_add, is_read, add_steps_of, BeginsWith, SeesBeginning}
+use Rattle.total_laws.proofs.Leaving.{counts, rows_are}
 
 -- ---- reads change no answer at tables
 
