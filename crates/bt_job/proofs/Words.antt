@@ -21,9 +21,9 @@ use Rattle.expr_types.specs.Mentions.{Word, NumberWord, TextWord, BuiltinWord, F
 use Rattle.expr_types.specs.Mentions.{AssignWord, GatherWord, DeleteWord, PrintfWord, ShowWord, ClearWord, ZeroWord, JumpWord, WhileWord, UnrollWord, ArmWord, ElseWord, NoElseWord, EndWord}
 use Rattle.expr_types.specs.Typing.{IsNamed, IsMapOf, Fits, AllFit, titles_of, title, word_of, words_by}
 use Rattle.expr_types.proofs.Later.{get_mapped, title_is, format_is}
-use Rattle.typing_laws.proofs.Apart.{AreApart, var_named, place_first, call_first}
-use Rattle.typing_laws.proofs.Finding.{first_at}
-use Rattle.typing_laws.proofs.Reader.{Stack, step, run}
+use Rattle.bt_job.proofs.Apart.{AreApart, var_named, place_first, call_first}
+use Rattle.bt_job.proofs.Finding.{first_at}
+use Rattle.bt_job.proofs.Reader.{Stack, step, run}
 
 -- ---- the part that a word stands for, as far as a reader of parts asks
 

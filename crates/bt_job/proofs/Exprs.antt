@@ -8,7 +8,7 @@ use Rattle.typed_tree.specs.declared.expr.NumExpr.{NumExpr, roll-NumExpr, map-Nu
 use Rattle.typed_tree.specs.declared.expr.StrExpr.{StrExpr, roll-StrExpr, map-StrExpr, fold-roll-StrExpr}
 use Rattle.typed_tree.specs.Parts as tree
 use Rattle.typed_tree.specs.Parts.{Made, TreePart, made_of, num_parts, str_parts, parts_in, key_shapes, keyed_parts, compared, AggOf, Stepped, Prefixed, Joined, Both, Either, Chosen}
-use Rattle.typing_laws.proofs.Reader.{Value, Num, Text, Item, Held, Slot, Cell, Stack, num, push, value, num_in, any_in, num_of, any_of, map_of, past_keys, joined_by, is_equal, chosen, step, run, run-append, run_two, Pushes, PushesAny, PushesAll, all_pushed, keys_found, behind_keys}
+use Rattle.bt_job.proofs.Reader.{Value, Num, Text, Item, Held, Slot, Cell, Stack, num, push, value, num_in, any_in, num_of, any_of, map_of, past_keys, joined_by, is_equal, chosen, step, run, run-append, run_two, Pushes, PushesAny, PushesAll, all_pushed, keys_found, behind_keys}
 
 abbrev pub AnyReads : AnyExpr → Type 0
 AnyReads a = (st : Stack) → PushesAny (made_of a).parts st a

@@ -15,9 +15,9 @@ use Rattle.typed_tree.specs.Bodies.{predicate_parts, tree_parts}
 use Rattle.typed_tree.specs.Parts as tree
 use Rattle.typed_tree.specs.Parts.{TreePart, Made, made_of, num_parts, parts_in, key_shapes, keyed_parts, stmt_parts, block_parts, arm_parts, otherwise_parts, joined, gather_parts, printf_parts, delete_parts}
 use Rattle.typed_tree.specs.Parts.{Assigned, Gathered, Printed, Deleted, Looped, Unrolled, Arm, Otherwise, NoOtherwise, Ending, VarOf}
-use Rattle.typing_laws.proofs.Reader.{Value, Num, Item, Held, Slot, Cell, Done, Choice, Stack, push, value, num_in, num_of, any_of, stmt, stmt_of, block_of, map_of, done, enter, assigned, gathered, past_keys, step, fresh, guarded, read_body}
-use Rattle.typing_laws.proofs.Reader.{run, run-append, run_two, PushesAll, all_pushed, keys_found, behind_keys}
-use Rattle.typing_laws.proofs.Exprs.{AnyReads, any_reads, num_reads, values_pushed, cell_pushed}
+use Rattle.bt_job.proofs.Reader.{Value, Num, Item, Held, Slot, Cell, Done, Choice, Stack, push, value, num_in, num_of, any_of, stmt, stmt_of, block_of, map_of, done, enter, assigned, gathered, past_keys, step, fresh, guarded, read_body}
+use Rattle.bt_job.proofs.Reader.{run, run-append, run_two, PushesAll, all_pushed, keys_found, behind_keys}
+use Rattle.bt_job.proofs.Exprs.{AnyReads, any_reads, num_reads, values_pushed, cell_pushed}
 
 -- reading these parts pushes an item that is this statement
 pub record Tells (ps : List TreePart) (st : Stack) (s : TypedStmt) : Type 0 where

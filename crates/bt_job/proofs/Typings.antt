@@ -28,10 +28,10 @@ use Rattle.bt_types.specs.Bodies.{nothing, told_at}
 use Rattle.bt_types.specs.Listed.{IsListed}
 use Rattle.bt_types.specs.Script.{AreTypedBodies, IsTypedScript, maps_of}
 use Rattle.bt_types.specs.Under.{IsUnder, AreBehind, AreUnder, known_or, known_behind}
-use Rattle.typing_laws.proofs.Apart.{AreApart, judged_apart}
-use Rattle.typing_laws.proofs.Reader.{Stack, block_of, fresh, guarded, read_body}
-use Rattle.typing_laws.proofs.Stmts.{tree_reads}
-use Rattle.typing_laws.proofs.Words.{parts_by, words_read}
+use Rattle.bt_job.proofs.Apart.{AreApart, judged_apart}
+use Rattle.bt_job.proofs.Reader.{Stack, block_of, fresh, guarded, read_body}
+use Rattle.bt_job.proofs.Stmts.{tree_reads}
+use Rattle.bt_job.proofs.Words.{parts_by, words_read}
 
 -- ---- trees
 

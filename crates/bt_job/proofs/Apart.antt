@@ -21,7 +21,7 @@ use Rattle.expr_types.specs.Mentions.{NeedsWhole, NeedsSame, NeedsShort, NeedsBo
 use Rattle.expr_types.specs.Rules.{broken_at}
 use Rattle.expr_types.proofs.Calling.{same_place}
 use Rattle.expr_types.proofs.Finding.{same_self}
-use Rattle.typing_laws.proofs.Finding.{first_at, IsApart, apart_more}
+use Rattle.bt_job.proofs.Finding.{first_at, IsApart, apart_more}
 
 -- ---- keys
 
