@@ -9,8 +9,8 @@ ghost use Rattle.begun_lists.specs.Begun.{AreAllWhole, IsBegun};
 ghost use Rattle.begun_lists.specs.Parts.{IsStampedAfter, NotBeforeLast};
 ghost use Rattle.begun_lists.specs.Wrong.{IsWrongStep};
 ghost use Rattle.step_follower.specs.declared.follow.Reached.{Reached as Reach};
-ghost use Rattle.weave_check.specs.Limits.{IsLimit};
-ghost use Rattle.weave_check.specs.Stops.{AllMayStand, AreReached, MayStand};
+ghost use Rattle.step_check.specs.Limits.{IsLimit};
+ghost use Rattle.step_check.specs.Stops.{AllMayStand, AreReached, MayStand};
 
 /// Up to a place before which each step may stand where it stands, a followed list can be made, if its replies, stamps and order are
 /// right so far.

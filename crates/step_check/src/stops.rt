@@ -2,7 +2,7 @@
 ghost use Rattle.std.specs.Prelude.{◌≡◌, ◌≢◌, ◌↔◌, ℕ, ◌≤◌, ◌<◌, IsTrue, false, length, slice_index_or};
 ghost use Rattle.std.specs.List.{AllByRecursion};
 ghost use Rattle.bt_core.specs.declared.step.Step.{Step as MadeStep};
-ghost use Rattle.weave_check.specs.Stops.{AllMayStand, ArePassed, IsPassed, MayStand};
+ghost use Rattle.step_check.specs.Stops.{AllMayStand, ArePassed, IsPassed, MayStand};
 
 use bt_core::step::Step;
 use step_follower::follow::Reached;

@@ -3,7 +3,7 @@ use Rattle.std.proofs.Common.{◌≡◌, ◌↔◌, ◌+◌, ℕ, List, slice_in
 use mathlib.Core.Logic.{dite}
 use native.Mathlib.Decide.{ℕ_discrete}
 use Rattle.step_follower.specs.declared.follow.Reached.{Reached}
-use Rattle.weave_check.specs.Stops.{ArePassed, IsPassed}
+use Rattle.step_check.specs.Stops.{ArePassed, IsPassed}
 
 -- one more
 pub passed_more : (each : List Reached) (n : ℕ) (all one both : Reached) (place : ℕ) → ((d : Reached) → slice_index_or each n d ≡ one)

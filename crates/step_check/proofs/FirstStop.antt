@@ -20,12 +20,12 @@ use Rattle.begun_lists.proofs.NoFurther.{parts_begun}
 use Rattle.step_follower.specs.declared.follow.Reached.{Reached}
 use Rattle.step_follower.specs.Followed.{Followed, IsFollowed}
 use Rattle.step_follower.proofs.FollowedLaws.{followed_begins}
-use Rattle.weave_check.specs.Limits.{IsLimit}
-use Rattle.weave_check.specs.Stops.{AllMayStand, AreReached, IsPassed, MayStand}
-use Rattle.weave_check.proofs.AllActors.{followed_limit, followed_whole_or_not}
-use Rattle.weave_check.proofs.Barriers.{cut_at, has_parts, split_front}
-use Rattle.weave_check.proofs.Places.{place_passed}
-use Rattle.weave_check.proofs.WholeFollowed.{followed_whole}
+use Rattle.step_check.specs.Limits.{IsLimit}
+use Rattle.step_check.specs.Stops.{AllMayStand, AreReached, IsPassed, MayStand}
+use Rattle.step_check.proofs.AllActors.{followed_limit, followed_whole_or_not}
+use Rattle.step_check.proofs.Barriers.{cut_at, has_parts, split_front}
+use Rattle.step_check.proofs.Places.{place_passed}
+use Rattle.step_check.proofs.WholeFollowed.{followed_whole}
 
 -- a cut of the front of a list is at the step of its place
 step_there : (list : List Step) (l : ℕ) (before : List Step) (s : Step) (rest : List Step) (d : Step) → take l list ≡ before ++ s ∷ rest → l ≤ length list

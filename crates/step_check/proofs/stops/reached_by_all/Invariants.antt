@@ -1,6 +1,6 @@
 use Rattle.std.proofs.Common.{◌↔◌, ℕ}
-use Rattle.weave_check.specs.Stops.{ArePassed, IsPassed}
-use Rattle.weave_check.proofs.stops.reached_by_all.Given as goal
+use Rattle.step_check.specs.Stops.{ArePassed, IsPassed}
+use Rattle.step_check.proofs.stops.reached_by_all.Given as goal
 
 -- it is of those before this one
 abbrev pub invariant-loop-reached : goal.invariant-loop-reached

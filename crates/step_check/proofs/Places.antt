@@ -11,7 +11,7 @@ use Rattle.step_follower.specs.Followed.{Followed, IsFollowed}
 use Rattle.blank_steps.proofs.Computations.{Begins-front, Runs-Begins-all}
 use Rattle.step_follower.proofs.FollowLemmas.{take_own}
 use Rattle.step_follower.proofs.FollowedLaws.{never_next}
-use Rattle.weave_check.proofs.Barriers.{split_front, no_more}
+use Rattle.step_check.proofs.Barriers.{split_front, no_more}
 
 -- of two fronts of one list the one is a front of the other
 fronts : (xs ys us vs : List Step) → xs ++ us ≡ ys ++ vs → ((m : List Step) × (ys ≡ xs ++ m)) ⊎ ((y : Step) × ((m : List Step) × (xs ≡ ys ++ y ∷ m) × (vs ≡ y ∷ (m ++ us))))

@@ -18,8 +18,8 @@ use Rattle.begun_lists.specs.Wrong.{IsWrongStep}
 use Rattle.begun_lists.proofs.Cuts.{take_again}
 use Rattle.begun_lists.proofs.NoFurther.{wrong_step}
 use Rattle.step_follower.proofs.FollowedLaws.{followed_begins}
-use Rattle.weave_check.specs.Limits.{IsLimit}
-use Rattle.weave_check.proofs.WholeFollowed.{by_program, followed_whole, not_whole}
+use Rattle.step_check.specs.Limits.{IsLimit}
+use Rattle.step_check.proofs.WholeFollowed.{by_program, followed_whole, not_whole}
 
 module _ (p : Replay) (list : List Step) where
   pub no_limit : IsLimit p list (length list)

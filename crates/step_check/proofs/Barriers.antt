@@ -15,7 +15,7 @@ use Rattle.step_follower.specs.Followed.{Followed, IsFollowed}
 use Rattle.blank_steps.proofs.Computations.{whole_ends}
 use Rattle.begun_lists.proofs.Cuts.{none_own, take_again}
 use Rattle.begun_lists.specs.Parts.{HasParts}
-use Rattle.weave_check.proofs.WholeFollowed.{followed_whole}
+use Rattle.step_check.proofs.WholeFollowed.{followed_whole}
 
 -- a cut of the front of a list is a cut of the list
 pub record CutAt (list before : List Step) (s : Step) : Type 0 where

@@ -1,9 +1,9 @@
 use Rattle.std.proofs.Common.{◌≡◌, length, get_or, subst, arith}
 use Rattle.std.proofs.lemmas.List.{get_or_default}
 use Rattle.std.proofs.Common.{ℕ, ◌↔◌}
-use Rattle.weave_check.specs.Stops.{ArePassed, IsPassed}
-use Rattle.weave_check.proofs.Together.{passed_more}
-use Rattle.weave_check.proofs.stops.reached_by_all.Goals as goal
+use Rattle.step_check.specs.Stops.{ArePassed, IsPassed}
+use Rattle.step_check.proofs.Together.{passed_more}
+use Rattle.step_check.proofs.stops.reached_by_all.Goals as goal
 
 pub loop-reached-preserved : goal.loop-reached-preserved
 loop-reached-preserved c = λ place.

@@ -1,5 +1,5 @@
-use Rattle.weave_check.specs.Stops.{AllMayStand}
-use Rattle.weave_check.proofs.stops.first_stop.Given as goal
+use Rattle.step_check.specs.Stops.{AllMayStand}
+use Rattle.step_check.proofs.stops.first_stop.Given as goal
 
 -- all steps before this one may stand where they stand
 abbrev pub invariant-loop-place : goal.invariant-loop-place
