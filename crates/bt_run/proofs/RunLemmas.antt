@@ -46,8 +46,8 @@ use Rattle.bt_meaning.specs.Walks.{replay_of}
 use Rattle.bt_meaning.proofs.OwnCalls.{all_fine, script_steps}
 use Rattle.bt_meaning.proofs.SerialLaws.{serial_interleaves}
 use Rattle.bpf_insn.specs.declared.insn.Insn.{Insn}
-use Rattle.replay_laws.specs.Agree.{AllReplies}
-use Rattle.replay_laws.specs.HeldReplies.{IsHeldReply}
+use Rattle.code_bodies.specs.Agree.{AllReplies}
+use Rattle.code_bodies.specs.HeldReplies.{IsHeldReply}
 use Rattle.code_bodies.specs.Coding.{code_replay, coding}
 use Rattle.code_bodies.specs.Programs.{AreCodesOf}
 use Rattle.step_list.specs.declared.list.StepList.{StepList}

@@ -14,8 +14,8 @@ use Rattle.bt_core.proofs.StepLists.{is_same_object-true, of_actor-own}
 use Rattle.bt_meaning.specs.Interleavings.{IsInterleaving}
 use Rattle.bt_meaning.specs.Replays.{Replay, cpus_of, begin_of, cpu_of, end_of, answers_of}
 use Rattle.bt_meaning.proofs.Eachs.{each_so, each_both, each_front, each_back, each_kept}
-use Rattle.replay_laws.specs.Agree.{AllReplies, Comes}
-use Rattle.replay_laws.proofs.SameRuns.{AsksWhere, HasKind}
+use Rattle.code_bodies.specs.Agree.{AllReplies, Comes}
+use Rattle.code_bodies.proofs.SameRuns.{AsksWhere, HasKind}
 
 -- a step that its object takes, with a reply that comes
 abbrev IsFine : (Reply → Type 0) → (ObjectId → Op → Type 0) → List MapDecl → Step → Type 0

@@ -20,7 +20,7 @@ use Rattle.actor_plan.specs.Plans.{Plan}
 use Rattle.actor_plan.specs.Programs.{after_count, bodies_at, crosses_last, entry_work, event_work, goes_on, in_turn, item_work, items_program, mark_work, tick_work, where_some}
 use Rattle.bt_core.specs.Same.{SameTo}
 use Rattle.bt_core.proofs.SameLaws.{SameTo-self, SameTo-and_then}
-use Rattle.replay_laws.specs.Agree.{Comes, AskSame, AskSameOn}
+use Rattle.code_bodies.specs.Agree.{Comes, AskSame, AskSameOn}
 
 -- programs that both went on to their end, or both did not
 abbrev pub EndAlike : Outcome → Outcome → Type 0

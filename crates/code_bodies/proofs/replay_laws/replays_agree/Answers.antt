@@ -1,6 +1,6 @@
-use Rattle.replay_laws.proofs.laws.replays_agree.Goals as goal
-use Rattle.replay_laws.proofs.Agreeing.{there, back, replayed_there, replayed_back, serial}
-use Rattle.replay_laws.specs.HeldReplies.{IsHeldReply}
+use Rattle.code_bodies.proofs.replay_laws.replays_agree.Goals as goal
+use Rattle.code_bodies.proofs.Agreeing.{there, back, replayed_there, replayed_back, serial}
+use Rattle.code_bodies.specs.HeldReplies.{IsHeldReply}
 
 pub returns-clause-there : goal.returns-clause-there
 returns-clause-there c p q steps agree asks held i = there IsHeldReply p q agree asks steps held i

@@ -9,9 +9,9 @@ use Rattle.bt_core.specs.Same.{SameTo}
 use Rattle.bt_meaning.specs.Interleavings.{IsInterleaving, IsReplayed}
 use Rattle.bt_meaning.specs.Replays.{Replay, cpus_of, begin_of, cpu_of, end_of}
 use Rattle.bt_meaning.proofs.Eachs.{each_front, each_back, each_kept}
-use Rattle.replay_laws.specs.Agree.{Comes, AskSame}
-use Rattle.replay_laws.proofs.SameRuns.{HasKind, same_whole}
-use Rattle.replay_laws.proofs.SamePrograms.{EndAlike}
+use Rattle.code_bodies.specs.Agree.{Comes, AskSame}
+use Rattle.code_bodies.proofs.SameRuns.{HasKind, same_whole}
+use Rattle.code_bodies.proofs.SamePrograms.{EndAlike}
 
 -- the same with other plans
 abbrev pub with_plans : Replay → (ℕ → Plan) → Replay

@@ -11,7 +11,7 @@ use Rattle.bt_core.specs.Ports.{IsReplyOf}
 use Rattle.actor_plan.specs.Plans.{AsksOf}
 use Rattle.bt_core.specs.Same.{SameTo}
 use Rattle.bt_meaning.specs.Interleavings.{IsWhole}
-use Rattle.replay_laws.specs.Agree.{Comes}
+use Rattle.code_bodies.specs.Agree.{Comes}
 
 -- the reply of a step is of the kind of its operation
 abbrev pub HasKind : (Reply → Type 0) → List MapDecl → Step → Type 0

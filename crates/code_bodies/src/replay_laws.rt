@@ -12,9 +12,9 @@ ghost use Rattle.bt_meaning.specs.Prints.{printed_text};
 ghost use Rattle.bt_meaning.specs.Replays.{Replay, cpus_of};
 ghost use Rattle.bt_meaning.specs.Serial.{serial_steps};
 ghost use Rattle.bt_meaning.specs.Walks.{replay_of};
-ghost use Rattle.replay_laws.specs.Agree.{AllReplies, ReplaysAgree};
-ghost use Rattle.replay_laws.specs.Asking.{AsksObjects};
-ghost use Rattle.replay_laws.specs.HeldReplies.{IsHeldReply};
+ghost use Rattle.code_bodies.specs.Agree.{AllReplies, ReplaysAgree};
+ghost use Rattle.code_bodies.specs.Asking.{AsksObjects};
+ghost use Rattle.code_bodies.specs.HeldReplies.{IsHeldReply};
 
 /// Where the bodies of two replays ask the same and one of the two asks only what its objects take, each interleaving of the one
 /// is one of the other, with its stamps, and the list of the serial run is the same. It is enough that they ask the same under replies

@@ -15,10 +15,10 @@ use Rattle.bt_meaning.specs.Serial.{alone, next_step, then_steps, then_value, ta
 use Rattle.bt_meaning.proofs.Eachs.{each_front, each_back}
 use Rattle.bt_meaning.proofs.ItemByItem.{is_passed, is_taken, takes_all}
 use Rattle.bt_meaning.proofs.Stepping.{takes_whole}
-use Rattle.replay_laws.specs.Agree.{Comes}
-use Rattle.replay_laws.proofs.SameRuns.{HasKind}
-use Rattle.replay_laws.proofs.SamePrograms.{EndAlike}
-use Rattle.replay_laws.proofs.Carried.{with_plans, SamePrograms}
+use Rattle.code_bodies.specs.Agree.{Comes}
+use Rattle.code_bodies.proofs.SameRuns.{HasKind}
+use Rattle.code_bodies.proofs.SamePrograms.{EndAlike}
+use Rattle.code_bodies.proofs.Carried.{with_plans, SamePrograms}
 
 module _ (holds : Reply → Type 0) (p : Replay) (one other : ℕ → Plan) where
   abbrev left : Replay

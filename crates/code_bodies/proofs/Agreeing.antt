@@ -28,14 +28,14 @@ use Rattle.bt_meaning.specs.Replays.{Replay, answers_of, begin_of, cpu_of, cpus_
 use Rattle.bt_meaning.specs.Serial.{alone, alone_on, serial_steps}
 use Rattle.bt_meaning.specs.Walks.{replay_of}
 use Rattle.bt_meaning.proofs.SerialLaws.{serial_interleaves}
-use Rattle.replay_laws.specs.Agree.{AllReplies, AskSame, Comes, ReplaysAgree}
-use Rattle.replay_laws.specs.Asking.{objects_of, AsksObjects}
-use Rattle.replay_laws.proofs.Carried.{with_plans, SamePrograms, carried, replayed}
-use Rattle.replay_laws.proofs.SamePrograms.{EndAlike, items_same, item_same, turn_same}
-use Rattle.replay_laws.proofs.Coming.{kinds_of}
-use Rattle.replay_laws.proofs.SameRuns.{AsksWhere, HasKind, SameTo-sym, asks_fewer, same_asks}
-use Rattle.replay_laws.proofs.SameSerial.{serial_same}
-use Rattle.replay_laws.proofs.ScriptAsks.{script_asks}
+use Rattle.code_bodies.specs.Agree.{AllReplies, AskSame, Comes, ReplaysAgree}
+use Rattle.code_bodies.specs.Asking.{objects_of, AsksObjects}
+use Rattle.code_bodies.proofs.Carried.{with_plans, SamePrograms, carried, replayed}
+use Rattle.code_bodies.proofs.SamePrograms.{EndAlike, items_same, item_same, turn_same}
+use Rattle.code_bodies.proofs.Coming.{kinds_of}
+use Rattle.code_bodies.proofs.SameRuns.{AsksWhere, HasKind, SameTo-sym, asks_fewer, same_asks}
+use Rattle.code_bodies.proofs.SameSerial.{serial_same}
+use Rattle.code_bodies.proofs.ScriptAsks.{script_asks}
 
 alike_back : (holds : Reply → Type 0) (maps : List MapDecl) (t u : Interaction Outcome) → SameTo (Comes holds maps) (λ b a. EndAlike a b) t u → SameTo (Comes holds maps) EndAlike t u
 alike_back holds maps (Ended a) (Ended b) same = sym same

@@ -1,6 +1,6 @@
-use Rattle.replay_laws.proofs.laws.agreeing_runs_mean_the_script.Goals as goal
-use Rattle.replay_laws.proofs.Agreeing.{script_interleaving, script_replayed, script_serial}
-use Rattle.replay_laws.specs.HeldReplies.{IsHeldReply}
+use Rattle.code_bodies.proofs.replay_laws.agreeing_runs_mean_the_script.Goals as goal
+use Rattle.code_bodies.proofs.Agreeing.{script_interleaving, script_replayed, script_serial}
+use Rattle.code_bodies.specs.HeldReplies.{IsHeldReply}
 
 pub returns-clause-interleavings : goal.returns-clause-interleavings
 returns-clause-interleavings c script attached r q steps job agree held i = script_interleaving IsHeldReply script attached r job q agree steps held i

@@ -27,7 +27,7 @@ use Rattle.bt_meaning.specs.OwnSteps.{setting_of}
 use Rattle.bt_meaning.specs.Walks.{walked, walking, replay_of}
 use Rattle.bt_meaning.proofs.OwnCalls.{size_at, all_fine}
 use Rattle.bt_meaning.proofs.Placed.{maps_placed}
-use Rattle.replay_laws.specs.Asking.{objects_of, AsksObjects}
+use Rattle.code_bodies.specs.Asking.{objects_of, AsksObjects}
 
 walked_asks : (calls others : ObjectId → Op → Type 0) (maps : List MapDecl) (t : Interaction Ending) → ((object : ObjectId) (op : Op) → calls object op → others object op)
     → AdmitsOf calls maps (λ ending. Unit {0}) t → AsksOf {A = ℕ} others maps (and_then t (λ ending. Ended 0))
