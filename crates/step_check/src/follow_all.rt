@@ -15,11 +15,11 @@ use bt_core::items::Items;
 use bt_core::map::MapDecl;
 use bt_core::memory::Memory;
 use bt_core::step::Step;
-use program_follower::actors::follow_cpu;
-use program_follower::main_actor::{MainTrail, follow_main};
 use recordings::recording::Recording;
 use std::alloc::Global;
+use step_follower::actors::follow_cpu;
 use step_follower::follow::{Reached, Trail};
+use step_follower::main_actor::{MainTrail, follow_main};
 
 /// A list with the items of the CPUs, and how far it was followed for each of them.
 #[derive(Drop)]

@@ -9,8 +9,9 @@ ghost use Rattle.actor_plan.specs.Programs.{actor_program, begin_program, end_pr
 ghost use Rattle.actor_plan.specs.Ready.{IsReady};
 ghost use Rattle.blank_steps.specs.Blank.{blank_of};
 ghost use Rattle.step_follower.specs.Followed.{IsFollowed};
-ghost use Rattle.program_follower.specs.Settings.{setting_for};
+ghost use Rattle.step_follower.specs.Settings.{setting_for};
 
+use crate::follow::{Follower, Trail};
 use actor_plan::bodies::Bodies;
 use actor_plan::program::{run_begin, run_cpu, run_end};
 use bt_ast::attached::Attached;
@@ -20,7 +21,6 @@ use bt_core::memory::{Memory, TryCopy};
 use bt_core::step::Step;
 use recordings::recording::Recording;
 use std::alloc::Global;
-use step_follower::follow::{Follower, Trail};
 
 /// A port that follows a list for an actor, from a place that is the start or right behind a step of the actor.
 pub(crate) fn follower_of(

@@ -8,9 +8,10 @@ ghost use Rattle.actor_plan.specs.Programs.{actor_program, begin_program};
 ghost use Rattle.actor_plan.specs.Ready.{IsReady};
 ghost use Rattle.blank_steps.specs.Blank.{blank_of};
 ghost use Rattle.step_follower.specs.Followed.{IsFollowed};
-ghost use Rattle.program_follower.specs.Settings.{setting_for};
+ghost use Rattle.step_follower.specs.Settings.{setting_for};
 
 use crate::actors::{follow_begin, follower_of};
+use crate::follow::{Reached, Trail};
 use actor_plan::bodies::Bodies;
 use actor_plan::program::run_end;
 use bt_ast::attached::Attached;
@@ -20,7 +21,6 @@ use bt_core::memory::Memory;
 use bt_core::step::Step;
 use recordings::recording::Recording;
 use std::alloc::Global;
-use step_follower::follow::{Reached, Trail};
 
 /// A list with the items of the main actor, and how far it was followed for `BEGIN` and for the whole program.
 #[derive(Drop)]

@@ -6,9 +6,9 @@ use Rattle.actor_plan.specs.Programs.{actor_program, begin_program, end_program}
 use Rattle.step_follower.specs.Followed.{IsFollowed}
 use Rattle.step_follower.specs.Following.{steps_in}
 use Rattle.step_follower.proofs.Others.{replies_kept}
-use Rattle.program_follower.specs.Settings.{setting_for}
-use Rattle.program_follower.proofs.MainLaws.{begin_stays, main_followed, main_strayed}
-use Rattle.program_follower.proofs.main_actor.follow_main.Goals as goal
+use Rattle.step_follower.specs.Settings.{setting_for}
+use Rattle.step_follower.proofs.MainLaws.{begin_stays, main_followed, main_strayed}
+use Rattle.step_follower.proofs.main_actor.follow_main.Goals as goal
 
 pub returns-then-not-begin-clause-whole : goal.returns-then-not-begin-clause-whole
 returns-then-not-begin-clause-whole g c =
