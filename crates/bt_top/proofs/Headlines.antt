@@ -7,8 +7,8 @@ use Rattle.account_format.specs.Entries.{FitsStep}
 use Rattle.bt_meaning.specs.Prints.{printed_text}
 use Rattle.std.specs.Prelude.{Bool, true, false, Option, Some, None, IsSomeAnd}
 use Rattle.std.specs.Io.KnownBytes.{Appends}
-use Rattle.big_script.specs.declared.script.TheConstants.{SCRIPT}
-use Rattle.big_script.specs.Jobs.{IsAttachedOver, IsTypedOver, HaveFewTotals}
+use Rattle.rec_gen.specs.declared.script.TheConstants.{SCRIPT}
+use Rattle.rec_gen.specs.Jobs.{IsAttachedOver, IsTypedOver, HaveFewTotals}
 use Rattle.bt_ast.specs.declared.attached.Attached.{Attached}
 use Rattle.bt_ast.specs.declared.probe.Script.{Script as Tree}
 use Rattle.bt_attach.specs.Attaching.{IsAttachedTo, attach_fault}

@@ -1,6 +1,6 @@
 -- What the built-in script asks for, and the work of a run.
 use Rattle.std.specs.Prelude.{◌≡◌, ℕ, Bool, true, List, map}
-use Rattle.big_script.specs.declared.script.TheConstants.{SCRIPT}
+use Rattle.rec_gen.specs.declared.script.TheConstants.{SCRIPT}
 use Rattle.bpf_insn.specs.declared.insn.Insn.{Insn}
 use Rattle.bt_core.specs.declared.step.ObjectId.{ObjectId}
 use Rattle.bt_core.specs.Steps.{on_object}

@@ -69,7 +69,7 @@ fn perform<S: Shelf, K: Sink, G: Gate + Sync, R: Threads + Wait + Sync>(
     bt_meaning::laws::ticks_come_after();
     total_laws::read_laws::reads_see_beginnings();
     total_laws::read_laws::adds_are_own();
-    big_script::laws::script_only_adds();
+    rec_gen::script_laws::script_only_adds();
     total_laws::laws::totals_are_exact();
     let outcome = match outcome_of(rt, alloc, order, shelf, gate) {
         Ok(outcome) => outcome,

@@ -23,7 +23,7 @@ use Rattle.expr_types.specs.declared.known.Known.{Known}
 use Rattle.expr_types.specs.Mentions.{Word, BuiltinWord, FieldWord, GatherWord, NoElseWord, EndWord}
 use Rattle.expr_types.specs.Typing.{Titles, Fits, AllFit, words_by}
 use Rattle.bt_types.proofs.StmtLayers.{gather_stmt}
-use Rattle.big_script.proofs.Inversion.{IsGather, IsFieldExpr, IsCommExpr, gather_found, field_found, comm_found, no_end}
+use Rattle.rec_gen.proofs.Inversion.{IsGather, IsFieldExpr, IsCommExpr, gather_found, field_found, comm_found, no_end}
 
 abbrev pub counted : MapId → TypedStmt
 counted m = stmts.Gather m (anys.Str strs.Comm ∷ []) agg.Count None

@@ -5,7 +5,7 @@ use Rattle.bt_lexer.specs.declared.token.Token.{Token}
 use Rattle.bt_lexer.specs.declared.token.TokenKind.{TokenKind}
 use Rattle.bt_lexer.specs.declared.token.TokenKind.TheVariants as kinds
 use Rattle.bt_lexer.specs.Scan.{lexed, word_piece, map_piece, var_piece, number_at, number_piece, mark_len, slash_piece, piece_at}
-use Rattle.big_script.specs.declared.script.TheConstants.{SCRIPT}
+use Rattle.rec_gen.specs.declared.script.TheConstants.{SCRIPT}
 
 -- a token of the one line, with what stands before it and its end
 abbrev token_at : TokenKind → ℕ → ℕ → Token

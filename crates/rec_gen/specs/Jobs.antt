@@ -10,7 +10,7 @@ use Rattle.bt_meaning.specs.Walks.{replay_of}
 use Rattle.bt_types.specs.Script.{IsTypedScript}
 use Rattle.recordings.specs.declared.recording.Recording.{Recording}
 use Rattle.typed_tree.specs.declared.script.Typed.{Typed}
-use Rattle.big_script.specs.Tree.{IsTree}
+use Rattle.rec_gen.specs.Tree.{IsTree}
 
 -- the script with its types over this recording
 pub record IsTypedOver (r : Recording) (typed : Typed) : Type 0 where

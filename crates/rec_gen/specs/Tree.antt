@@ -8,7 +8,7 @@ use Rattle.bt_lexer.specs.declared.token.Token.{Token}
 use Rattle.bt_lexer.specs.Tokens.{IsTokensOf}
 use Rattle.bt_types.specs.Bodies.{type_fault}
 use Rattle.recordings.specs.declared.recording.Recording.{Recording}
-use Rattle.big_script.specs.declared.script.TheConstants.{SCRIPT}
+use Rattle.rec_gen.specs.declared.script.TheConstants.{SCRIPT}
 
 -- the tree of the script's tokens, in which nothing is refused
 pub record IsTree (tree : Script) : Type 0 where

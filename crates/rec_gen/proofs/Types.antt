@@ -34,9 +34,9 @@ use Rattle.bt_types.specs.Bodies.{told_at, nothing, fault_of, type_fault}
 use Rattle.bt_types.specs.Told.{Told, told, next, told_in_turn, says, asks, value_told, gather_told, gathered_told, kind_of_call, number_of_call, block_told, stmt_kind_layer, told_stmt_layer, told_block_layer, of_stmt_kind, of_block, of_stmt}
 use Rattle.recordings.specs.declared.recording.Recording.{Recording}
 use Rattle.rec_gen.specs.Made.{IsMade}
-use Rattle.big_script.proofs.Attach.{the_bodies}
-use Rattle.big_script.proofs.Grammar.{place, map_at, id_at, gather_at, comm_at, the_statements, the_tree}
-use Rattle.big_script.proofs.MadeFormat.{the_format, the_layout, formats_are}
+use Rattle.rec_gen.proofs.Attach.{the_bodies}
+use Rattle.rec_gen.proofs.Grammar.{place, map_at, id_at, gather_at, comm_at, the_statements, the_tree}
+use Rattle.rec_gen.proofs.MadeFormat.{the_format, the_layout, formats_are}
 
 -- ---- expressions
 

@@ -6,8 +6,8 @@ ghost use Rattle.recordings.specs.declared.recording.Recording.{Recording};
 ghost use Rattle.rec_gen.specs.Made.{IsMade};
 ghost use Rattle.script_programs.specs.Sizes.{first_size_fault};
 ghost use Rattle.typed_tree.specs.declared.script.Typed.{Typed};
-ghost use Rattle.big_script.specs.Jobs.{IsAttachedOver, IsTypedOver, HaveFewTotals};
-ghost use Rattle.big_script.specs.Tree.{IsScriptFor};
+ghost use Rattle.rec_gen.specs.Jobs.{IsAttachedOver, IsTypedOver, HaveFewTotals};
+ghost use Rattle.rec_gen.specs.Tree.{IsScriptFor};
 
 /// Over a made recording nothing of the script is refused: it has tokens and a tree, none of its points breaks a rule of attaching, none of
 /// its bodies a rule of types, and none needs too large a frame or too much code.

@@ -15,11 +15,11 @@ use Rattle.bt_types.specs.Told.{Told}
 use Rattle.bt_types.specs.Under.{IsUnder, AreUnder, known_or}
 use Rattle.recordings.specs.declared.recording.Recording.{Recording}
 use Rattle.rec_gen.specs.Made.{IsMade}
-use Rattle.big_script.proofs.Attach.{the_bodies}
-use Rattle.big_script.proofs.Body.{IsBody, body_is}
-use Rattle.big_script.proofs.Grammar.{the_tree}
-use Rattle.big_script.proofs.MadeFormat.{the_format, formats_are}
-use Rattle.big_script.proofs.Types.{the_id, the_told, told_is, the_known, whole}
+use Rattle.rec_gen.proofs.Attach.{the_bodies}
+use Rattle.rec_gen.proofs.Body.{IsBody, body_is}
+use Rattle.rec_gen.proofs.Grammar.{the_tree}
+use Rattle.rec_gen.proofs.MadeFormat.{the_format, formats_are}
+use Rattle.rec_gen.proofs.Types.{the_id, the_told, told_is, the_known, whole}
 
 -- one body, and its tree
 pub record IsTyped (typed : Typed) : Type 0 where

@@ -5,8 +5,8 @@ use Rattle.bt_ast.specs.declared.attached.BodyPoint.TheVariants.{Event}
 use Rattle.bt_attach.specs.Attaching.{attach_fault, bodies_from}
 use Rattle.recordings.specs.declared.recording.Recording.{Recording}
 use Rattle.rec_gen.specs.Made.{IsMade}
-use Rattle.big_script.proofs.Grammar.{the_tree}
-use Rattle.big_script.proofs.MadeFormat.{the_format, formats_are}
+use Rattle.rec_gen.proofs.Grammar.{the_tree}
+use Rattle.rec_gen.proofs.MadeFormat.{the_format, formats_are}
 
 abbrev pub the_bodies : List BodyId
 the_bodies = record { probe = 0; point = Event 0 } ∷ []

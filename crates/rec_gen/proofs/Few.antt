@@ -38,12 +38,12 @@ use Rattle.actor_plan.specs.Programs.{entry_work, event_work, in_turn}
 use Rattle.bt_meaning.specs.Replays.{begin_of, end_of}
 use Rattle.bt_meaning.specs.Totals.{Addition, addition_keys, adds_of, events_add, ticks_add, all_adds, total_rows, totals}
 use Rattle.bt_meaning.specs.Walks.{replay_of, walking, walked}
-use Rattle.big_script.proofs.Attach.{the_bodies}
-use Rattle.big_script.proofs.Body.{IsBody}
-use Rattle.big_script.proofs.Grammar.{the_tree}
-use Rattle.big_script.proofs.Keys.{IsKey, HaveKeys, few_keys}
-use Rattle.big_script.proofs.MadeFormat.{formats_are}
-use Rattle.big_script.proofs.Walked.{three_adds, walk_is}
+use Rattle.rec_gen.proofs.Attach.{the_bodies}
+use Rattle.rec_gen.proofs.Body.{IsBody}
+use Rattle.rec_gen.proofs.Grammar.{the_tree}
+use Rattle.rec_gen.proofs.Keys.{IsKey, HaveKeys, few_keys}
+use Rattle.rec_gen.proofs.MadeFormat.{formats_are}
+use Rattle.rec_gen.proofs.Walked.{three_adds, walk_is}
 
 -- ---- lists
 

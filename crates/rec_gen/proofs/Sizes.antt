@@ -8,8 +8,8 @@ use Rattle.script_programs.specs.declared.error.SizeFault.{SizeFault}
 use Rattle.script_programs.specs.declared.error.SizeFault.TheVariants.{FrameTooLarge, CodeTooLarge}
 use Rattle.script_programs.specs.Sizes.{first_size_fault, or_else}
 use Rattle.typed_tree.specs.declared.script.Typed.{Typed}
-use Rattle.big_script.proofs.Needs.{body_need}
-use Rattle.big_script.proofs.Typed.{IsTyped}
+use Rattle.rec_gen.proofs.Needs.{body_need}
+use Rattle.rec_gen.proofs.Typed.{IsTyped}
 
 abbrev fault_of : Need → Option SizeFault
 fault_of n =

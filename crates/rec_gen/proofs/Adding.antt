@@ -26,9 +26,9 @@ use Rattle.typed_tree.specs.declared.body.TypedBody.{TypedBody}
 use Rattle.typed_tree.specs.declared.script.Typed.{Typed}
 use Rattle.expr_types.specs.Mentions.{Word, MapWord, ClearWord, ZeroWord, JumpWord}
 use Rattle.expr_types.specs.Typing.{Titles, titles_of, word_of, words_by}
-use Rattle.big_script.proofs.Grammar.{place, map_at, id_at, comm_at, gather_at, the_statements, the_tree}
-use Rattle.big_script.proofs.Types.{the_known, the_told}
-use Rattle.big_script.proofs.Typed.{IsTyped}
+use Rattle.rec_gen.proofs.Grammar.{place, map_at, id_at, comm_at, gather_at, the_statements, the_tree}
+use Rattle.rec_gen.proofs.Types.{the_known, the_told}
+use Rattle.rec_gen.proofs.Typed.{IsTyped}
 
 -- ---- no exit
 

@@ -1,7 +1,7 @@
-use Rattle.big_script.proofs.Adding.{only_adds}
-use Rattle.big_script.proofs.Few.{few}
-use Rattle.big_script.proofs.OneTree.{typed_over, attached_over}
-use Rattle.big_script.proofs.laws.script_only_adds.Goals as goal
+use Rattle.rec_gen.proofs.Adding.{only_adds}
+use Rattle.rec_gen.proofs.Few.{few}
+use Rattle.rec_gen.proofs.OneTree.{typed_over, attached_over}
+use Rattle.rec_gen.proofs.script_laws.script_only_adds.Goals as goal
 
 pub returns-clause-only : goal.returns-clause-only
 returns-clause-only c = λ seed count r typed made is. only_adds typed (typed_over seed count r made typed is)

@@ -17,12 +17,12 @@ use Rattle.bt_types.specs.Script.{IsTypedScript}
 use Rattle.recordings.specs.declared.recording.Recording.{Recording}
 use Rattle.rec_gen.specs.Made.{IsMade}
 use Rattle.typed_tree.specs.declared.script.Typed.{Typed}
-use Rattle.big_script.specs.declared.script.TheConstants.{SCRIPT}
-use Rattle.big_script.specs.Jobs.{IsTypedOver, IsAttachedOver}
-use Rattle.big_script.specs.Tree.{IsTree}
-use Rattle.big_script.proofs.Grammar.{the_tree, the_probe, the_items}
-use Rattle.big_script.proofs.Tokens.{the_tokens, lexes}
-use Rattle.big_script.proofs.Typed.{IsTyped, typed_script}
+use Rattle.rec_gen.specs.declared.script.TheConstants.{SCRIPT}
+use Rattle.rec_gen.specs.Jobs.{IsTypedOver, IsAttachedOver}
+use Rattle.rec_gen.specs.Tree.{IsTree}
+use Rattle.rec_gen.proofs.Grammar.{the_tree, the_probe, the_items}
+use Rattle.rec_gen.proofs.Tokens.{the_tokens, lexes}
+use Rattle.rec_gen.proofs.Typed.{IsTyped, typed_script}
 
 whole_read : read_at 40 WholeScript the_items ≡ Done (the_probe ∷ []) []
 unfolding word_class mark_class

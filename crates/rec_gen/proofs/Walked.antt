@@ -28,7 +28,7 @@ use Rattle.walk_meaning.specs.Stmts.{gather, in_sequence, stmt_does, block_does,
 use Rattle.walk_meaning.specs.Walk.{walk, first_frame, guarded, ending_of}
 use Rattle.walk_meaning.proofs.ExprDoes.{field_num, comm_str}
 use Rattle.bt_lower.proofs.Forms.{Gather-does}
-use Rattle.big_script.proofs.Body.{IsBody, counted, gathered}
+use Rattle.rec_gen.proofs.Body.{IsBody, counted, gathered}
 
 comm_does : value_does (anys.Str strs.Comm) ≡ text_value command
 comm_does =

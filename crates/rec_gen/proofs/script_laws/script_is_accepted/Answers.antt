@@ -1,12 +1,12 @@
 use Rattle.bt_lexer.proofs.Whole.{tokens_found}
-use Rattle.big_script.specs.declared.script.TheConstants.{SCRIPT}
-use Rattle.big_script.proofs.Attach.{attached}
-use Rattle.big_script.proofs.Grammar.{the_tree, is_accepted}
-use Rattle.big_script.proofs.OneTree.{typed_over}
-use Rattle.big_script.proofs.Sizes.{no_size_fault}
-use Rattle.big_script.proofs.Tokens.{the_tokens, lexes}
-use Rattle.big_script.proofs.Types.{typed}
-use Rattle.big_script.proofs.laws.script_is_accepted.Goals as goal
+use Rattle.rec_gen.specs.declared.script.TheConstants.{SCRIPT}
+use Rattle.rec_gen.proofs.Attach.{attached}
+use Rattle.rec_gen.proofs.Grammar.{the_tree, is_accepted}
+use Rattle.rec_gen.proofs.OneTree.{typed_over}
+use Rattle.rec_gen.proofs.Sizes.{no_size_fault}
+use Rattle.rec_gen.proofs.Tokens.{the_tokens, lexes}
+use Rattle.rec_gen.proofs.Types.{typed}
+use Rattle.rec_gen.proofs.script_laws.script_is_accepted.Goals as goal
 
 pub returns-clause-accepted : goal.returns-clause-accepted
 returns-clause-accepted c = λ seed count r m. record {

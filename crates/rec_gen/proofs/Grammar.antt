@@ -28,7 +28,7 @@ use Rattle.bt_grammar.specs.Weights.{weight, level_weight, levels_behind, levels
 use Rattle.bt_grammar.specs.Words.{word_class, mark_class}
 use Rattle.bt_grammar.proofs.Decide.{accepted}
 use Rattle.bt_grammar.proofs.Scripts.{whole_end}
-use Rattle.big_script.proofs.Tokens.{the_tokens}
+use Rattle.rec_gen.proofs.Tokens.{the_tokens}
 
 abbrev pub place : ℕ → Place
 place column = record { line = 1; column = column }

@@ -19,7 +19,7 @@ use Rattle.bt_lower.specs.declared.need.Need.{Need}
 use Rattle.bt_lower.specs.declared.need.Valued.{Valued}
 use Rattle.bt_lower.specs.Needs.{need, valued, greater, all_need, gather_need, predicate_need, value_need, text_need, number_need, stmt_need, block_need, tree_need, value_need_by_parts, number_need_by_parts, text_need_by_parts, stmt_need_by_parts, block_need_by_parts}
 use Rattle.bt_lower.proofs.Forms.{Gather-need}
-use Rattle.big_script.proofs.Body.{IsBody, counted, gathered}
+use Rattle.rec_gen.proofs.Body.{IsBody, counted, gathered}
 
 field_need : (f : Field) → number_need (nums.Field f) ≡ need 8 8
 field_need f = ap number_need (sym (nums.rolls-Field f)) ∙ fold-roll-NumExpr Valued Need Need value_need_by_parts number_need_by_parts text_need_by_parts (NumExpr-F.NumExpr::Field f)
