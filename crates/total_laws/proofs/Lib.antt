@@ -20,3 +20,6 @@ pub mod TickReads
 mod Leaving
 mod ReadLemmas
 mod OwnAdds
+mod ProgramCalls
+mod StepCalls
+mod WalkCalls

@@ -10,7 +10,7 @@ use Rattle.bt_core.specs.declared.step.Step.{Step}
 use Rattle.bt_core.specs.Steps.{is_of, is_on, of_actor, on_object, operations}
 use Rattle.bt_core.proofs.StepLists.{is_same_object-true}
 use Rattle.bt_meaning.proofs.Eachs.{each_front}
-use Rattle.program_calls.specs.Calls.{IsProgramCall, IsProgramStep}
+use Rattle.total_laws.specs.Calls.{IsProgramCall, IsProgramStep}
 use Rattle.total_laws.specs.Reads.{is_add, is_read, changes_at, add_steps_of}
 
 abbrev stays : Op → Bool

@@ -23,5 +23,5 @@ pub fn adds_are_own()
     ensures { (script : Typed) (attached : Attached) (r : Recording) (steps : List Step) → IsJob script attached r →
         IsInterleaving (replay_of script attached r) steps → AddsAreOwn steps }
 {
-    program_calls::laws::steps_make_such_calls();
+    crate::call_laws::steps_make_such_calls();
 }

@@ -19,8 +19,8 @@ use Rattle.bt_meaning.specs.OwnSteps.{IsOwnStep}
 use Rattle.bt_meaning.specs.Replays.{Replay, begin_of, cpu_of, end_of}
 use Rattle.bt_meaning.specs.Walks.{replay_of}
 use Rattle.bt_meaning.proofs.Eachs.{each_so, each_both, each_front, each_back, each_kept}
-use Rattle.program_calls.specs.Calls.{IsProgramCall, IsProgramStep}
-use Rattle.program_calls.proofs.ProgramCalls.{begin_call, cpu_call, end_call}
+use Rattle.total_laws.specs.Calls.{IsProgramCall, IsProgramStep}
+use Rattle.total_laws.proofs.ProgramCalls.{begin_call, cpu_call, end_call}
 
 abbrev Kind : List MapDecl → Step → Type 0
 Kind maps s = IsReplyOf maps s.object s.op s.reply

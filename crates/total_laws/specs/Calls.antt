@@ -5,7 +5,7 @@ use Rattle.bt_core.specs.declared.step.ObjectId.TheVariants.{Clock}
 use Rattle.bt_core.specs.declared.step.Op.{Op}
 use Rattle.bt_core.specs.declared.step.Op.TheVariants.{Cross, Check}
 use Rattle.bt_core.specs.declared.step.Step.{Step}
-use Rattle.program_calls.specs.WalkCalls.{IsWalkCall}
+use Rattle.total_laws.specs.WalkCalls.{IsWalkCall}
 
 -- those of walks; and the clock is asked whether to go on, and who is the last to cross a tick
 abbrev pub IsProgramCall : ℕ → ObjectId → Op → Type 0

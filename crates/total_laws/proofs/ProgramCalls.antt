@@ -19,9 +19,9 @@ use Rattle.actor_plan.proofs.AskLaws.{program_asks, begin_asks, cpu_asks, end_as
 use Rattle.bt_meaning.specs.Jobs.{IsJob}
 use Rattle.bt_meaning.specs.Walks.{walked, walking, replay_of}
 use Rattle.begun_lists.specs.Begun.{program_of}
-use Rattle.program_calls.specs.WalkCalls.{IsWalkCall, OnlyCalls}
-use Rattle.program_calls.proofs.WalkCalls.{only-then, walk_calls}
-use Rattle.program_calls.specs.Calls.{IsProgramCall}
+use Rattle.total_laws.specs.WalkCalls.{IsWalkCall, OnlyCalls}
+use Rattle.total_laws.proofs.WalkCalls.{only-then, walk_calls}
+use Rattle.total_laws.specs.Calls.{IsProgramCall}
 
 -- a call of a walk is one of a program
 of_walk : (actor : ℕ) (object : ObjectId) (op : Op) → IsWalkCall actor object op → IsProgramCall actor object op

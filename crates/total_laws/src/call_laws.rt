@@ -10,7 +10,7 @@ ghost use Rattle.bt_meaning.specs.Interleavings.{IsInterleaving};
 ghost use Rattle.bt_meaning.specs.Jobs.{IsJob};
 ghost use Rattle.bt_meaning.specs.Walks.{replay_of};
 ghost use Rattle.begun_lists.specs.Begun.{program_of};
-ghost use Rattle.program_calls.specs.Calls.{IsProgramCall, IsProgramStep};
+ghost use Rattle.total_laws.specs.Calls.{IsProgramCall, IsProgramStep};
 
 /// Under replies of the kinds that the operations have, each actor of a script makes each operation under a key at the key's part, and
 /// adds at its own tables alone. So who knows the actor and the operation knows the part and the tables.

@@ -36,7 +36,7 @@ use Rattle.walk_meaning.specs.Maps.{get, set, delete, add, kind_in_body, sum_at}
 use Rattle.map_ops.specs.Asking.{tells, got, asked_from, swept, printed, summed}
 use Rattle.walk_meaning.specs.Stmts.{plain, stmt_by_parts, block_by_parts, stmt_does, block_does, number_or_one, print, clear, zero_all, if_next, in_sequence, first_arm, arm_does, cut, entered, turn, turns, tests, while_true, again}
 use Rattle.walk_meaning.specs.Walk.{walk, first_frame, guarded, ending_of, tree_does}
-use Rattle.program_calls.specs.WalkCalls.{IsWalkCall, OnlyCalls}
+use Rattle.total_laws.specs.WalkCalls.{IsWalkCall, OnlyCalls}
 
 pub only-then : {A B : Type 0} (calls : ObjectId → Op → Type 0) (t : Interaction A) (k : A → Interaction B) → OnlyCalls calls t → ((a : A) → OnlyCalls calls (k a)) → OnlyCalls calls (and_then t k)
 only-then calls (Ended a) k p q = q a

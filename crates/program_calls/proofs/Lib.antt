@@ -1,3 +1,0 @@
-mod ProgramCalls
-mod StepCalls
-mod WalkCalls
