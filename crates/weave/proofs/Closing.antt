@@ -22,7 +22,7 @@ use Rattle.weave.specs.Traces.{all_steps, AreTraces, replying, IsHistory, HaveHi
 use Rattle.weave.proofs.Histories.{ops_same}
 use Rattle.weave.proofs.Orders.{level}
 use Rattle.weave.proofs.Weaving.{weaves}
-use Rattle.run_ends.specs.Closed.{OwnRows, AreFull, Answer, paired, id_in, history_in, is_among, AreAmong, StandsAt, AllStand}
+use Rattle.weave.specs.Closed.{OwnRows, AreFull, Answer, paired, id_in, history_in, is_among, AreAmong, StandsAt, AllStand}
 
 -- ---- rows
 

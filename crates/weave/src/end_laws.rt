@@ -9,7 +9,7 @@ ghost use Rattle.turn_lock.specs.declared.entry.Entry.{Entry};
 ghost use Rattle.stamped.specs.declared.trace.Trace.{Trace};
 ghost use Rattle.weave.specs.Order.{InOrder};
 ghost use Rattle.weave.specs.Traces.{all_steps, HaveHistories};
-ghost use Rattle.run_ends.specs.Ends.{HaveEnded, HasParts};
+ghost use Rattle.weave.specs.Ends.{HaveEnded, HasParts};
 
 /// Where the CPUs' traces begin at the clock after `BEGIN`, and the main actor's clock was raised to the
 /// latest of theirs before `END`, the steps of all traces in order are woven: they have the main actor's

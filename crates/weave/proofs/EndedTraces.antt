@@ -24,7 +24,7 @@ use Rattle.weave.proofs.Places.{Own, trace_steps}
 use Rattle.weave.proofs.Orders.{level}
 use Rattle.weave.proofs.Weaving.{weaves}
 use Rattle.weave.proofs.Clocks.{is_woven, stands_between}
-use Rattle.run_ends.specs.Ends.{AreCpuTraces, latest, HaveEnded, HasParts}
+use Rattle.weave.specs.Ends.{AreCpuTraces, latest, HaveEnded, HasParts}
 
 greatest_both : (xs ys : List Step) → greatest (xs ++ ys) ≡ max (greatest xs) (greatest ys)
 greatest_both [] ys = omega arith
