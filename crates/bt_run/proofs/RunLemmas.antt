@@ -56,10 +56,10 @@ use Rattle.weave.specs.Listed.{listed}
 use Rattle.run_base.specs.declared.job.Job.{Job}
 use Rattle.run_objects.specs.declared.closed.Closed.{Closed}
 use Rattle.run_base.specs.Jobs.{cpus_in, world_for}
-use Rattle.run_output.specs.declared.form.Form.{Form}
-use Rattle.run_output.specs.declared.form.Form.TheVariants.{Text, Json}
-use Rattle.run_output.specs.JsonLines.{json_text_of}
-use Rattle.run_output.specs.Outputs.{output_of}
+use Rattle.run_base.specs.declared.form.Form.{Form}
+use Rattle.run_base.specs.declared.form.Form.TheVariants.{Text, Json}
+use Rattle.run_base.specs.JsonLines.{json_text_of}
+use Rattle.run_base.specs.Outputs.{output_of}
 use Rattle.bt_run.specs.Made.{IsMade}
 use Rattle.run_objects.specs.Closed.{AreClosedAt}
 use Rattle.bt_run.specs.Ran.{HasRun}

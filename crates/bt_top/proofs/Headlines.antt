@@ -25,8 +25,8 @@ use Rattle.bt_words.specs.declared.order.Order.TheVariants.{Run, Check, Code, Ve
 use Rattle.run_base.specs.declared.job.Job.{Job}
 use Rattle.run_base.specs.declared.job.Work.{Work}
 use Rattle.total_laws.specs.Reads.{AddsAreOwn, ReadsSeeBeginnings}
-use Rattle.run_output.specs.declared.form.Form.{Form}
-use Rattle.run_output.specs.declared.form.Form.TheVariants.{Text}
+use Rattle.run_base.specs.declared.form.Form.{Form}
+use Rattle.run_base.specs.declared.form.Form.TheVariants.{Text}
 use Rattle.recordings.specs.declared.recording.Recording.{Recording as Recorded}
 use Rattle.recordings.specs.Recordings.{IsValidRecording}
 use Rattle.rec_gen.specs.Made.{IsMade}

@@ -14,8 +14,8 @@ use Rattle.recordings.specs.Recordings.{IsValidRecording}
 use Rattle.rec_gen.specs.Made.{IsMade}
 use Rattle.run_base.specs.declared.job.Job.{Job}
 use Rattle.run_base.specs.declared.job.Work.{Work}
-use Rattle.run_output.specs.declared.form.Form.{Form}
-use Rattle.run_output.specs.Outputs.{output_of}
+use Rattle.run_base.specs.declared.form.Form.{Form}
+use Rattle.run_base.specs.Outputs.{output_of}
 use Rattle.code_bodies.specs.Programs.{AreCodesOf}
 use Rattle.bt_judge.specs.Jobs.{AsksFor}
 use Rattle.bt_judge.specs.Meanings.{Meaning, Means}

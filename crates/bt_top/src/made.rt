@@ -9,7 +9,7 @@ ghost use Rattle.bt_judge.specs.Jobs.{AsksFor};
 ghost use Rattle.bt_top.specs.Jobs.{IsBigJob};
 ghost use Rattle.bt_top.specs.Outcomes.{ComesTo, IsOutcomeOfRun, run_outcome, summary_line};
 ghost use Rattle.code_bodies.specs.Programs.{KeepScript};
-ghost use Rattle.run_output.specs.declared.form.Form.TheVariants.{Text};
+ghost use Rattle.run_base.specs.declared.form.Form.TheVariants.{Text};
 
 use crate::outcome::Outcome;
 use crate::work::{programs_of, run};
@@ -22,8 +22,8 @@ use rec_format::writing::write_recording;
 use rec_gen::generate::generate;
 use rec_gen::script::SCRIPT;
 use recordings::recording::Recording;
+use run_base::form::Form;
 use run_base::job::{Job, Work};
-use run_output::form::Form;
 use std::alloc::Global;
 use std::sync::Wait;
 use std::thread::Threads;

@@ -1,7 +1,7 @@
 use Rattle.json_out.specs.Lines.{item_lines}
 use Rattle.map_rows.specs.Items.{IsItemOf}
 use Rattle.bt_meaning.proofs.TextLaws.{all_texts, at_place, next_text}
-use Rattle.run_output.proofs.json_lines.lines_of.Goals as goal
+use Rattle.run_base.proofs.json_lines.lines_of.Goals as goal
 
 pub write_emitted-requires : goal.write_emitted-requires
 write_emitted-requires c =

@@ -4,7 +4,7 @@ use Rattle.json_out.specs.Lines.{item_lines}
 use Rattle.map_rows.specs.Items.{IsItemOf}
 use Rattle.step_list.specs.Emits.{told}
 use Rattle.bt_meaning.proofs.TextLaws.{items_are, items_are_own}
-use Rattle.run_output.proofs.json_lines.emitted_lines.Goals as goal
+use Rattle.run_base.proofs.json_lines.emitted_lines.Goals as goal
 
 pub lines_of-requires : goal.lines_of-requires
 lines_of-requires c =

@@ -7,7 +7,7 @@ use Rattle.bt_core.specs.declared.value.Value.{Value}
 use Rattle.typed_tree.specs.declared.script.Typed.{Typed}
 use Rattle.bt_meaning.specs.Prints.{emitted, rows_after, lost_after, of_maps}
 use Rattle.json_out.specs.Lines.{item_lines, end_lines}
-use Rattle.run_output.specs.JsonLines.{json_text_of}
+use Rattle.run_base.specs.JsonLines.{json_text_of}
 
 pub whole_lines : (script : Typed) (cpus : ℕ) (steps : List Step) (rows : List (List (List Value × Cell))) (lost first end lines : List ℕ)
     → first ≡ flat_map (item_lines script.formats script.maps) (emitted steps) → end ≡ end_lines script.maps rows lost → lines ≡ first ++ end

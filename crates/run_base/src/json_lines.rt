@@ -7,7 +7,7 @@ ghost use Rattle.map_rows.specs.Items.{IsItemOf};
 ghost use Rattle.step_list.specs.Emits.{item_told};
 ghost use Rattle.bt_meaning.specs.Prints.{emitted, lost_after, of_maps, rows_after};
 ghost use Rattle.bt_meaning.specs.Texts.{EmitOwn, item_of};
-ghost use Rattle.run_output.specs.JsonLines.{json_text_of};
+ghost use Rattle.run_base.specs.JsonLines.{json_text_of};
 
 use bt_core::item::{Cell, Item};
 use bt_core::items::Items;

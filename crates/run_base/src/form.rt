@@ -3,7 +3,7 @@ ghost use Rattle.std.specs.Prelude.{◌≡◌, ℕ, IfOk, length};
 ghost use Rattle.map_rows.specs.Fits.{AllRowsFit};
 ghost use Rattle.bt_meaning.specs.Prints.{lost_after, of_maps, rows_after};
 ghost use Rattle.bt_meaning.specs.Texts.{EmitOwn};
-ghost use Rattle.run_output.specs.Outputs.{output_of};
+ghost use Rattle.run_base.specs.Outputs.{output_of};
 
 use crate::json_lines::json_text;
 use bt_core::item::Cell;

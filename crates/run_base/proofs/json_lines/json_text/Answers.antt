@@ -1,6 +1,6 @@
 use Rattle.std.proofs.Common.{rules}
-use Rattle.run_output.proofs.WholeLines.{whole_lines}
-use Rattle.run_output.proofs.json_lines.json_text.Goals as goal
+use Rattle.run_base.proofs.WholeLines.{whole_lines}
+use Rattle.run_base.proofs.json_lines.json_text.Goals as goal
 
 pub returns : goal.returns
 returns c = λ cpus are were.
