@@ -27,7 +27,7 @@ use Rattle.bt_meaning.proofs.OwnCalls.{script_steps}
 use Rattle.begun_lists.specs.Begun.{IsBegun, program_of}
 use Rattle.begun_lists.proofs.Cuts.{cuts_of_each, each_of_cuts}
 use Rattle.begun_lists.proofs.WholeLists.{begun_of_replayed}
-use Rattle.program_calls.specs.Calls.{IsProgramCall}
+use Rattle.total_laws.specs.Calls.{IsProgramCall}
 use Rattle.account_format.specs.Entries.{FitsStep, IsAtHome, IsTold}
 use Rattle.account_check.specs.Accounts.{named, run}
 

@@ -14,7 +14,7 @@ ghost use Rattle.bt_meaning.specs.Replays.{cpus_of};
 ghost use Rattle.bt_meaning.specs.Walks.{replay_of};
 ghost use Rattle.account_check.specs.Accounts.{IsTrueAccount};
 
-use program_calls::laws::programs_make_such_calls;
+use total_laws::call_laws::programs_make_such_calls;
 
 /// An account is true of one list of steps at most. Nothing runs.
 pub fn one_account()

@@ -14,10 +14,10 @@ use account_format::error::AccountError;
 use bt_ast::attached::Attached;
 use bt_core::items::Items;
 use bt_core::step::Step;
-use program_calls::laws::programs_make_such_calls;
 use recordings::recording::Recording;
 use std::alloc::Global;
 use step_check::check::Checked;
+use total_laws::call_laws::programs_make_such_calls;
 use typed_tree::script::Typed;
 
 /// Checks an account: whether its entries tell the steps of a run of the script over the recording, and its text what they print. Gives

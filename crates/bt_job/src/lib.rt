@@ -1,4 +1,5 @@
-//! That a script whose types are checked over what it is attached to can be run over its recording.
+//! That a script over given formats has one typing, and that a script whose types are checked can be run over its recording.
 #![tactic(auto)]
 
 pub mod laws;
+pub mod typing_laws;

@@ -23,7 +23,7 @@ pub fn files_have_one_meaning()
     bt_lexer::laws::one_answer();
     bt_grammar::laws::one_answer();
     bt_attach::laws::attachments_are_one();
-    typing_laws::laws::scripts_have_one_typing();
+    bt_job::typing_laws::scripts_have_one_typing();
 }
 
 /// Of all typed scripts of one script over the same formats and bodies the same body, if any, is the first that needs too large a

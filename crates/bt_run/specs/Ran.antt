@@ -14,8 +14,8 @@ use Rattle.code_bodies.specs.Coding.{code_replay}
 use Rattle.code_bodies.specs.Programs.{AreCodesOf}
 use Rattle.run_base.specs.declared.job.Job.{Job}
 use Rattle.run_base.specs.Jobs.{cpus_in, world_for}
-use Rattle.run_output.specs.declared.form.Form.{Form}
-use Rattle.run_output.specs.Outputs.{output_of}
+use Rattle.run_base.specs.declared.form.Form.{Form}
+use Rattle.run_base.specs.Outputs.{output_of}
 use Rattle.bt_run.specs.declared.run.Ran.{Ran}
 use Rattle.run_objects.specs.Closed.{AreClosedAt}
 

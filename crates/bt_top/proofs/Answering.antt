@@ -7,8 +7,8 @@ use Rattle.bt_words.specs.declared.order.Order.{Order}
 use Rattle.bt_words.specs.declared.order.Order.TheVariants.{Run, Check, Code, Vet, Account, Verify, Gen, Big}
 use Rattle.run_base.specs.declared.job.Job.{Job}
 use Rattle.run_base.specs.declared.job.Work.{Work}
-use Rattle.run_output.specs.declared.form.Form.{Form}
-use Rattle.run_output.specs.declared.form.Form.TheVariants.{Text}
+use Rattle.run_base.specs.declared.form.Form.{Form}
+use Rattle.run_base.specs.declared.form.Form.TheVariants.{Text}
 use Rattle.account_format.specs.declared.error.AccountError.{AccountError}
 use Rattle.bt_core.specs.declared.step.Step.{Step}
 use Rattle.bt_refusal.specs.declared.refusal.Denial.{Denial}

@@ -7,8 +7,8 @@ use Rattle.account_format.specs.Entries.{FitsStep}
 use Rattle.bt_meaning.specs.Prints.{printed_text}
 use Rattle.std.specs.Prelude.{Bool, true, false, Option, Some, None, IsSomeAnd}
 use Rattle.std.specs.Io.KnownBytes.{Appends}
-use Rattle.big_script.specs.declared.script.TheConstants.{SCRIPT}
-use Rattle.big_script.specs.Jobs.{IsAttachedOver, IsTypedOver, HaveFewTotals}
+use Rattle.rec_gen.specs.declared.script.TheConstants.{SCRIPT}
+use Rattle.rec_gen.specs.Jobs.{IsAttachedOver, IsTypedOver, HaveFewTotals}
 use Rattle.bt_ast.specs.declared.attached.Attached.{Attached}
 use Rattle.bt_ast.specs.declared.probe.Script.{Script as Tree}
 use Rattle.bt_attach.specs.Attaching.{IsAttachedTo, attach_fault}
@@ -24,9 +24,9 @@ use Rattle.bt_words.specs.declared.order.Order.{Order}
 use Rattle.bt_words.specs.declared.order.Order.TheVariants.{Run, Check, Code, Vet, Account, Verify, Gen, Big}
 use Rattle.run_base.specs.declared.job.Job.{Job}
 use Rattle.run_base.specs.declared.job.Work.{Work}
-use Rattle.run_laws.specs.Reads.{AddsAreOwn, ReadsSeeBeginnings}
-use Rattle.run_output.specs.declared.form.Form.{Form}
-use Rattle.run_output.specs.declared.form.Form.TheVariants.{Text}
+use Rattle.total_laws.specs.Reads.{AddsAreOwn, ReadsSeeBeginnings}
+use Rattle.run_base.specs.declared.form.Form.{Form}
+use Rattle.run_base.specs.declared.form.Form.TheVariants.{Text}
 use Rattle.recordings.specs.declared.recording.Recording.{Recording as Recorded}
 use Rattle.recordings.specs.Recordings.{IsValidRecording}
 use Rattle.rec_gen.specs.Made.{IsMade}

@@ -1,9 +1,9 @@
 -- What the built-in script asks for over a made recording.
 use Rattle.std.proofs.Common.{◌≡◌, ℕ, List, sym, subst, inl, inr}
 use Rattle.std.specs.Prelude.{Option, Some, None, Result, Ok, Err, IfOk, IfErr}
-use Rattle.big_script.specs.declared.script.TheConstants.{SCRIPT}
-use Rattle.big_script.specs.Jobs.{IsAttachedOver, IsTypedOver}
-use Rattle.big_script.specs.Tree.{IsScriptFor as IsBuiltIn, IsTree}
+use Rattle.rec_gen.specs.declared.script.TheConstants.{SCRIPT}
+use Rattle.rec_gen.specs.Jobs.{IsAttachedOver, IsTypedOver}
+use Rattle.rec_gen.specs.Tree.{IsScriptFor as IsBuiltIn, IsTree}
 use Rattle.bt_ast.specs.declared.attached.Attached.{Attached}
 use Rattle.bt_ast.specs.declared.attached.BodyId.{BodyId}
 use Rattle.bt_ast.specs.declared.probe.Script.{Script as Tree}

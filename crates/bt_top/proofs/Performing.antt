@@ -17,8 +17,8 @@ use Rattle.recordings.specs.declared.recording.Recording.{Recording as Recorded}
 use Rattle.recordings.specs.Recordings.{recording_bytes}
 use Rattle.run_base.specs.declared.job.Job.{Job}
 use Rattle.run_base.specs.declared.job.Work.{Work}
-use Rattle.run_output.specs.declared.form.Form.{Form}
-use Rattle.run_output.specs.declared.form.Form.TheVariants.{Text}
+use Rattle.run_base.specs.declared.form.Form.{Form}
+use Rattle.run_base.specs.declared.form.Form.TheVariants.{Text}
 use Rattle.bt_ast.specs.declared.attached.BodyId.{BodyId}
 use Rattle.event_layout.specs.declared.format.Format.{Format}
 use Rattle.bt_refusal.specs.declared.refusal.Refusal.{Refusal}

@@ -19,10 +19,10 @@ use Rattle.bt_words.specs.declared.order.Order.{Order}
 use Rattle.bt_words.specs.declared.order.Order.TheVariants.{Run, Account, Big}
 use Rattle.code_bodies.specs.Coding.{code_replay}
 use Rattle.run_base.specs.declared.job.Work.{Work}
-use Rattle.run_laws.specs.Reads.{AddsAreOwn, ReadsSeeBeginnings}
-use Rattle.run_output.specs.declared.form.Form.{Form}
-use Rattle.run_output.specs.declared.form.Form.TheVariants.{Text}
-use Rattle.run_output.specs.Outputs.{output_of}
+use Rattle.total_laws.specs.Reads.{AddsAreOwn, ReadsSeeBeginnings}
+use Rattle.run_base.specs.declared.form.Form.{Form}
+use Rattle.run_base.specs.declared.form.Form.TheVariants.{Text}
+use Rattle.run_base.specs.Outputs.{output_of}
 use Rattle.code_bodies.specs.Programs.{AreCodesOf, KeepScript}
 use Rattle.total_laws.specs.Ends.{EndsWithTotals, HaveFewKeys}
 use Rattle.bt_refusal.specs.Lines.{SinkUse}

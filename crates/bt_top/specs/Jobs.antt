@@ -1,6 +1,6 @@
 -- What the built-in script asks for, and the work of a run.
 use Rattle.std.specs.Prelude.{◌≡◌, ℕ, Bool, true, List, map}
-use Rattle.big_script.specs.declared.script.TheConstants.{SCRIPT}
+use Rattle.rec_gen.specs.declared.script.TheConstants.{SCRIPT}
 use Rattle.bpf_insn.specs.declared.insn.Insn.{Insn}
 use Rattle.bt_core.specs.declared.step.ObjectId.{ObjectId}
 use Rattle.bt_core.specs.Steps.{on_object}
@@ -14,8 +14,8 @@ use Rattle.recordings.specs.Recordings.{IsValidRecording}
 use Rattle.rec_gen.specs.Made.{IsMade}
 use Rattle.run_base.specs.declared.job.Job.{Job}
 use Rattle.run_base.specs.declared.job.Work.{Work}
-use Rattle.run_output.specs.declared.form.Form.{Form}
-use Rattle.run_output.specs.Outputs.{output_of}
+use Rattle.run_base.specs.declared.form.Form.{Form}
+use Rattle.run_base.specs.Outputs.{output_of}
 use Rattle.code_bodies.specs.Programs.{AreCodesOf}
 use Rattle.bt_judge.specs.Jobs.{AsksFor}
 use Rattle.bt_judge.specs.Meanings.{Meaning, Means}

@@ -18,8 +18,8 @@ use Rattle.rec_gen.specs.Made.{IsMade}
 use Rattle.json_out.specs.Lines.{json_stats_line}
 use Rattle.run_base.specs.declared.job.Job.{Job}
 use Rattle.run_base.specs.declared.job.Work.{Work}
-use Rattle.run_output.specs.declared.form.Form.{Form}
-use Rattle.run_output.specs.declared.form.Form.TheVariants.{Text, Json}
+use Rattle.run_base.specs.declared.form.Form.{Form}
+use Rattle.run_base.specs.declared.form.Form.TheVariants.{Text, Json}
 use Rattle.bt_refusal.specs.declared.refusal.CodeRefusal.{CodeRefusal}
 use Rattle.bt_refusal.specs.declared.refusal.Denial.TheVariants as denial
 use Rattle.bt_judge.specs.Jobs.{IsJobFor, account_in}

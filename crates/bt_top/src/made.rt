@@ -9,11 +9,10 @@ ghost use Rattle.bt_judge.specs.Jobs.{AsksFor};
 ghost use Rattle.bt_top.specs.Jobs.{IsBigJob};
 ghost use Rattle.bt_top.specs.Outcomes.{ComesTo, IsOutcomeOfRun, run_outcome, summary_line};
 ghost use Rattle.code_bodies.specs.Programs.{KeepScript};
-ghost use Rattle.run_output.specs.declared.form.Form.TheVariants.{Text};
+ghost use Rattle.run_base.specs.declared.form.Form.TheVariants.{Text};
 
 use crate::outcome::Outcome;
 use crate::work::{programs_of, run};
-use big_script::script::SCRIPT;
 use bt_core::items::Items;
 use bt_core::memory::Memory;
 use bt_judge::judge::script_job;
@@ -21,9 +20,10 @@ use bt_refusal::refusal::Refusal;
 use itoa::Buffer;
 use rec_format::writing::write_recording;
 use rec_gen::generate::generate;
+use rec_gen::script::SCRIPT;
 use recordings::recording::Recording;
+use run_base::form::Form;
 use run_base::job::{Job, Work};
-use run_output::form::Form;
 use std::alloc::Global;
 use std::sync::Wait;
 use std::thread::Threads;
@@ -53,7 +53,7 @@ fn big_script_job(alloc: Global, x: u32, n: u32, recording: Recording) -> Result
     ensures asks { IfOk result (AsksFor SCRIPT) }
     ensures memory { IfErr result (λ refusal. refusal ≡ Refusal.Memory) }
 {
-    big_script::laws::script_is_accepted();
+    rec_gen::script_laws::script_is_accepted();
     bt_lexer::laws::one_answer();
     bt_grammar::laws::one_answer();
     bt_judge::laws::scripts_have_one_size();

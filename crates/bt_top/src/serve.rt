@@ -67,9 +67,9 @@ fn perform<S: Shelf, K: Sink, G: Gate + Sync, R: Threads + Wait + Sync>(
 {
     bt_job::laws::accepted_scripts_are_jobs();
     bt_meaning::laws::ticks_come_after();
-    run_laws::laws::reads_see_beginnings();
-    run_laws::laws::adds_are_own();
-    big_script::laws::script_only_adds();
+    total_laws::read_laws::reads_see_beginnings();
+    total_laws::read_laws::adds_are_own();
+    rec_gen::script_laws::script_only_adds();
     total_laws::laws::totals_are_exact();
     let outcome = match outcome_of(rt, alloc, order, shelf, gate) {
         Ok(outcome) => outcome,

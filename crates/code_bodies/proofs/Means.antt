@@ -34,9 +34,9 @@ use Rattle.bt_meaning.specs.Serial.{serial_steps}
 use Rattle.bt_meaning.specs.Walks.{replay_of, walked, walking}
 use Rattle.bt_meaning.proofs.Eachs.{each_so}
 use Rattle.bt_meaning.proofs.OwnCalls.{size_at}
-use Rattle.replay_laws.specs.Agree.{AllReplies, Comes, AskSame, AskSameOn, BodiesAskSame, ReplaysAgree}
-use Rattle.replay_laws.specs.HeldReplies.{IsHeldReply}
-use Rattle.replay_laws.proofs.Agreeing.{script_replayed, script_serial}
+use Rattle.code_bodies.specs.Agree.{AllReplies, Comes, AskSame, AskSameOn, BodiesAskSame, ReplaysAgree}
+use Rattle.code_bodies.specs.HeldReplies.{IsHeldReply}
+use Rattle.code_bodies.proofs.Agreeing.{script_replayed, script_serial}
 use Rattle.code_bodies.specs.Coding.{code_replay, coded, coding, count_of, fuel_of}
 use Rattle.code_bodies.specs.Kept.{AreHeld, EndsByExit, IsSeen, KeepBodies}
 use Rattle.code_bodies.proofs.Seen.{event_seen, moment_seen, number_small}

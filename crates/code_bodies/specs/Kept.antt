@@ -20,8 +20,8 @@ use Rattle.typed_tree.specs.declared.script.Typed.{Typed}
 use Rattle.bt_core.specs.Same.{SameTo}
 use Rattle.walk_meaning.specs.Walk.{walk}
 use Rattle.walk_meaning.specs.Served.{least_length}
-use Rattle.replay_laws.specs.Agree.{Comes}
-use Rattle.replay_laws.specs.HeldReplies.{IsHeldReply}
+use Rattle.code_bodies.specs.Agree.{Comes}
+use Rattle.code_bodies.specs.HeldReplies.{IsHeldReply}
 use Rattle.code_bodies.specs.Coding.{fuel_of}
 
 -- what a body may be run at: a payload of the size of its layout or more, of fewer than 2^32 bytes, and a context that names its length

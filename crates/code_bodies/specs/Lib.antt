@@ -4,3 +4,6 @@ pub mod Kept
 pub mod Running
 pub mod Serving
 pub mod Programs
+pub mod Agree
+pub mod Asking
+pub mod HeldReplies

@@ -12,8 +12,8 @@ ghost use Rattle.bt_meaning.specs.Interleavings.{IsReplayed};
 ghost use Rattle.bt_meaning.specs.Jobs.{IsJob};
 ghost use Rattle.bt_meaning.specs.Serial.{serial_steps};
 ghost use Rattle.bt_meaning.specs.Walks.{replay_of};
-ghost use Rattle.replay_laws.specs.Agree.{AllReplies, ReplaysAgree};
-ghost use Rattle.replay_laws.specs.HeldReplies.{IsHeldReply};
+ghost use Rattle.code_bodies.specs.Agree.{AllReplies, ReplaysAgree};
+ghost use Rattle.code_bodies.specs.HeldReplies.{IsHeldReply};
 ghost use Rattle.code_bodies.specs.Coding.{code_replay, coding};
 ghost use Rattle.code_bodies.specs.Kept.{AreHeld, KeepBodies};
 

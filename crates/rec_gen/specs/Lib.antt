@@ -1,2 +1,4 @@
 pub mod Draws
 pub mod Made
+pub mod Jobs
+pub mod Tree

@@ -3,3 +3,4 @@ pub mod CodeLemmas
 pub mod EntriesKnown
 pub mod ItemsKnown
 pub mod TypesSay
+mod WholeLines

@@ -1,2 +1,4 @@
 pub mod Held
 pub mod Jobs
+pub mod JsonLines
+pub mod Outputs

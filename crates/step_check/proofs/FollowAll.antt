@@ -19,8 +19,8 @@ use Rattle.step_follower.specs.declared.follow.Reached.{Reached}
 use Rattle.step_follower.specs.Followed.{IsFollowed}
 use Rattle.step_follower.proofs.Others.{followed_kept, replies_kept, without_twice}
 use Rattle.bt_meaning.specs.Replays.{Replay, begin_of, cpus_of}
-use Rattle.weave_check.specs.Stops.{AreReached, ArePassed, IsPassed}
-use Rattle.program_follower.specs.Settings.{setting_for}
+use Rattle.step_check.specs.Stops.{AreReached, ArePassed, IsPassed}
+use Rattle.step_follower.specs.Settings.{setting_for}
 use Rattle.step_check.specs.Plans.{CanFollow, HaveOwnReplies, HavePlans}
 
 -- an actor's program can be run through a port

@@ -2,3 +2,9 @@ mod Alike
 mod EndLemmas
 mod FollowAll
 mod Verdict
+mod WholeFollowed
+mod AllActors
+mod Barriers
+mod Places
+mod Together
+mod FirstStop

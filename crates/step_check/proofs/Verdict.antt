@@ -20,9 +20,9 @@ use Rattle.agg_core.specs.Answers.{answer}
 use Rattle.run_objects.specs.Worlds.{World}
 use Rattle.entry_replay.specs.Replaying.{CanBeMade, IsWrongNext}
 use Rattle.step_follower.specs.declared.follow.Reached.{Reached}
-use Rattle.weave_check.specs.Stops.{AllMayStand, AreReached, MayStand}
-use Rattle.weave_check.proofs.AllActors.{wrong_at}
-use Rattle.weave_check.proofs.FirstStop.{all_whole_where_on, front_is_begun, stop_is_limit, unfinished_where_off}
+use Rattle.step_check.specs.Stops.{AllMayStand, AreReached, MayStand}
+use Rattle.step_check.proofs.AllActors.{wrong_at}
+use Rattle.step_check.proofs.FirstStop.{all_whole_where_on, front_is_begun, stop_is_limit, unfinished_where_off}
 use Rattle.step_check.proofs.Alike.{order_alike, order_too, replies_too, stamp_alike, stamps_too, told_alike}
 
 -- what is wrong with the front of entries is wrong with them

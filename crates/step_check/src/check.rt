@@ -11,6 +11,7 @@ ghost use Rattle.step_check.specs.Plans.{CanFollow, HavePlans, replay_by};
 
 use crate::ends::{Ended, end_of};
 use crate::follow_all::follow_all;
+use crate::stops::first_stop;
 use actor_plan::bodies::Bodies;
 use bt_ast::attached::Attached;
 use bt_core::item::Cell;
@@ -24,7 +25,6 @@ use recordings::recording::Recording;
 use std::alloc::Global;
 use std::snapshot::Snapshot;
 use step_follower::follow::Reached;
-use weave_check::stops::first_stop;
 
 /// The steps that entries tell, and of each map the rows after these steps and how many of its updates they lost.
 #[derive(Drop)]

@@ -5,21 +5,21 @@ ghost use Rattle.actor_plan.specs.Programs.{actor_program};
 ghost use Rattle.blank_steps.specs.Blank.{without_item};
 ghost use Rattle.step_follower.specs.declared.follow.Reached.{Reached as Reach};
 ghost use Rattle.step_follower.specs.Followed.{IsFollowed};
-ghost use Rattle.weave_check.specs.Stops.{AreReached};
+ghost use Rattle.step_check.specs.Stops.{AreReached};
 ghost use Rattle.step_check.specs.Plans.{CanFollow, HaveOwnReplies, HavePlans, replay_by};
 
+use crate::stops::reached_by_all;
 use actor_plan::bodies::Bodies;
 use bt_ast::attached::Attached;
 use bt_core::items::Items;
 use bt_core::map::MapDecl;
 use bt_core::memory::Memory;
 use bt_core::step::Step;
-use program_follower::actors::follow_cpu;
-use program_follower::main_actor::{MainTrail, follow_main};
 use recordings::recording::Recording;
 use std::alloc::Global;
+use step_follower::actors::follow_cpu;
 use step_follower::follow::{Reached, Trail};
-use weave_check::stops::reached_by_all;
+use step_follower::main_actor::{MainTrail, follow_main};
 
 /// A list with the items of the CPUs, and how far it was followed for each of them.
 #[derive(Drop)]

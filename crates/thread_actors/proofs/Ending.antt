@@ -13,8 +13,8 @@ use Rattle.weave.specs.Lists.{greatest}
 use Rattle.weave.specs.Traces.{floors_from}
 use Rattle.actor_plan.specs.Plans.{Plan}
 use Rattle.actor_plan.specs.Programs.{begin_program, end_program}
-use Rattle.run_ends.specs.Ends.{AreCpuTraces, HaveEnded, latest}
-use Rattle.run_ends.proofs.Ending.{each_both}
+use Rattle.weave.specs.Ends.{AreCpuTraces, HaveEnded, latest}
+use Rattle.weave.proofs.EndedTraces.{each_both}
 use Rattle.cpu_worker.specs.declared.world.SharedWorld.{SharedWorld}
 use Rattle.cpu_worker.specs.declared.world.WorkerTurns.{WorkerTurns}
 use Rattle.cpu_worker.specs.Chains.{IsBy}

@@ -17,7 +17,7 @@ use Rattle.weave.specs.Traces.{floors_from}
 use Rattle.actor_plan.specs.declared.outcome.Outcome.{Outcome}
 use Rattle.actor_plan.specs.Plans.{Plan}
 use Rattle.actor_plan.specs.Programs.{cpu_program}
-use Rattle.run_ends.specs.Ends.{IsCpuTrace, AreCpuTraces}
+use Rattle.weave.specs.Ends.{IsCpuTrace, AreCpuTraces}
 use Rattle.thread_actors.specs.declared.side_by_side.Task.{Task}
 use Rattle.cpu_worker.specs.declared.world.SharedWorld.{SharedWorld}
 use Rattle.cpu_worker.specs.declared.world.WorkerTurns.{WorkerTurns}

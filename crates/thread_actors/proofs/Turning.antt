@@ -16,7 +16,7 @@ use Rattle.stamped.specs.Traces.{steps_of, floors_of, entries_at}
 use Rattle.percpu_tables.specs.Tables.{table_ids}
 use Rattle.shared_maps.specs.Maps.{part_ids}
 use Rattle.side_locks.specs.Turns.{clocks, outs}
-use Rattle.run_ends.specs.Closed.{OwnRows}
+use Rattle.weave.specs.Closed.{OwnRows}
 use Rattle.cpu_worker.specs.declared.world.WorkerTurns.{WorkerTurns}
 use Rattle.cpu_worker.specs.Worlds.{Sets, AreBy, AreTurnsOf, AreOwnIn, KeepsOwn}
 use Rattle.thread_actors.specs.Turns.{at_maps, at_tables, at_sides, AreOneActors, AreUnused, AreTurnsFrom, AllOwn}

@@ -10,7 +10,7 @@ use Rattle.actor_plan.specs.declared.outcome.Outcome.{Outcome}
 use Rattle.actor_plan.specs.Plans.{Plan}
 use Rattle.actor_plan.specs.Programs.{end_program}
 use Rattle.bt_meaning.specs.Replays.{Replay, cpus_of, begin_of, cpu_of, end_of}
-use Rattle.run_ends.specs.Ends.{AreCpuTraces, HaveEnded, latest}
+use Rattle.weave.specs.Ends.{AreCpuTraces, HaveEnded, latest}
 use Rattle.cpu_worker.specs.declared.world.SharedWorld.{SharedWorld}
 use Rattle.cpu_worker.specs.Chains.{Since}
 use Rattle.cpu_worker.specs.Worlds.{sets_in, setting_in, AreTurnsOf, IsPlanIn, KeepsOwn}

@@ -1,7 +1,7 @@
 // The CPUs of a run, each with a worker.
 ghost use Rattle.std.specs.Prelude.{◌≡◌, ◌+◌, ◌∷◌, ◌++◌, [], map, sum as total, length, IfOk, IsSome};
 ghost use Rattle.turn_lock.specs.History.{Each};
-ghost use Rattle.run_ends.specs.Ends.{latest};
+ghost use Rattle.weave.specs.Ends.{latest};
 ghost use Rattle.thread_actors.specs.Tasks.{bodies_in, turns_in, trace_in, count_in, count_of, IsWell, HasEnded, HasEndedWell, IsFresh};
 ghost use Rattle.thread_actors.specs.Turns.{AreOneActors};
 

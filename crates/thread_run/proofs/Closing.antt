@@ -18,7 +18,7 @@ use Rattle.step_objects.specs.CpuTables.{map_at}
 use Rattle.step_objects.specs.Objects.{shared_kind, SharedStands, cpu_kind, CpuStands}
 use Rattle.map_ops.specs.Parts.{part_count}
 use Rattle.shared_maps.specs.Parts.{part_at, parts_from}
-use Rattle.run_ends.specs.Closed.{AllStand}
+use Rattle.weave.specs.Closed.{AllStand}
 use Rattle.run_objects.specs.Worlds.{World}
 use Rattle.run_objects.proofs.ReadLemmas.{same_decl}
 use Rattle.run_objects.specs.declared.closed.Closed.{Closed}

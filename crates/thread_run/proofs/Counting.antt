@@ -22,7 +22,7 @@ use Rattle.bt_meaning.specs.Replays.{PlansAreOwn, Replay, answers_of, begin_of, 
 use Rattle.bt_meaning.proofs.Counts.{cpu_count, main_count}
 use Rattle.bt_meaning.proofs.ThreeParts.{HasLimits, interleaves, limits_of}
 use Rattle.run_objects.proofs.ReadLemmas.{sum_more}
-use Rattle.run_ends.specs.Ends.{HasParts}
+use Rattle.weave.specs.Ends.{HasParts}
 use Rattle.thread_actors.specs.Acts.{HaveRun}
 
 runs_one : {A : Type 0} (t : Interaction A) (ss : List Step) (a b : A) → Runs t ss a → Runs t ss b → a ≡ b

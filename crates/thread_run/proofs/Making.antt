@@ -39,10 +39,10 @@ use Rattle.actor_plan.specs.Plans.{Plan}
 use Rattle.bt_meaning.specs.Instructions.{instructions_of}
 use Rattle.bt_meaning.specs.Interleavings.{IsReplayed}
 use Rattle.bt_meaning.specs.Replays.{Replay, answers_of}
-use Rattle.run_ends.specs.Closed.{OwnRows, history_in}
-use Rattle.run_ends.specs.Ends.{HasParts}
-use Rattle.run_ends.proofs.Closing.{full_rows}
-use Rattle.run_ends.proofs.Ending.{each_both, are_traces, parts, cpu_traces}
+use Rattle.weave.specs.Closed.{OwnRows, history_in}
+use Rattle.weave.specs.Ends.{HasParts}
+use Rattle.weave.proofs.Closing.{full_rows}
+use Rattle.weave.proofs.EndedTraces.{each_both, are_traces, parts, cpu_traces}
 use Rattle.cpu_worker.specs.declared.world.SharedWorld.{SharedWorld}
 use Rattle.cpu_worker.specs.declared.world.WorkerTurns.{WorkerTurns}
 use Rattle.cpu_worker.specs.Worlds.{world_cpus, maps_in, sets_in, setting_in}

@@ -36,9 +36,9 @@ use Rattle.shared_maps.specs.Parts.{part_at, parts_from}
 use Rattle.side_locks.specs.Steps.{own_of_clock, reply_of_clock, own_of_out, reply_of_out}
 use Rattle.weave.specs.Order.{InOrder}
 use Rattle.weave.specs.Traces.{all_steps, AreTraces, IsHistory, HaveHistories}
-use Rattle.run_ends.specs.Closed.{OwnRows, AreFull, Answer, paired, id_in, history_in, is_among, AreAmong}
-use Rattle.run_ends.proofs.Closing.{one_history, histories, have_histories, all_stand}
-use Rattle.run_ends.proofs.Ending.{each_both}
+use Rattle.weave.specs.Closed.{OwnRows, AreFull, Answer, paired, id_in, history_in, is_among, AreAmong}
+use Rattle.weave.proofs.Closing.{one_history, histories, have_histories, all_stand}
+use Rattle.weave.proofs.EndedTraces.{each_both}
 use Rattle.cpu_worker.specs.declared.world.SharedWorld.{SharedWorld}
 use Rattle.cpu_worker.specs.Worlds.{world_cpus, maps_in, setting_in}
 use Rattle.thread_actors.specs.Acts.{CanMake}

@@ -12,7 +12,7 @@ use Rattle.step_objects.specs.declared.shared.SharedPart.{SharedPart}
 use Rattle.step_objects.specs.Objects.{shared_kind, SharedStands, cpu_kind, CpuStands}
 use Rattle.map_ops.specs.Parts.{part_count}
 use Rattle.shared_maps.specs.Parts.{Part}
-use Rattle.run_ends.specs.Closed.{AllStand}
+use Rattle.weave.specs.Closed.{AllStand}
 
 abbrev pub part_id : Part → ObjectId
 part_id part = part.0

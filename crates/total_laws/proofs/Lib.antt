@@ -17,3 +17,9 @@ pub mod Exact
 pub mod MapEnds
 pub mod SameEnds
 pub mod TickReads
+mod Leaving
+mod ReadLemmas
+mod OwnAdds
+mod ProgramCalls
+mod StepCalls
+mod WalkCalls

@@ -29,7 +29,7 @@ use Rattle.bt_meaning.proofs.Eachs.{each_front, each_back}
 use Rattle.bt_meaning.proofs.Stepping.{own_part}
 use Rattle.bt_meaning.proofs.TicksAfter.{ticks_after}
 use Rattle.bt_meaning.proofs.Walked.{walks_stop}
-use Rattle.run_laws.specs.Reads.{BeginsWith, add_steps_of, is_add}
+use Rattle.total_laws.specs.Reads.{BeginsWith, add_steps_of, is_add}
 use Rattle.total_laws.specs.Ends.{IsAddingRun, aggregate_rows, entries_in, ReadsSeeAllBefore}
 use Rattle.total_laws.proofs.Adding.{entries_append}
 use Rattle.total_laws.proofs.Exact.{fits, given, given_few}

@@ -31,7 +31,7 @@ use Rattle.bt_meaning.specs.Replays.{Replay, cpus_of}
 use Rattle.bt_meaning.specs.Ticks.{IsLastCrossing, HasDoneBefore}
 use Rattle.bt_meaning.specs.Totals.{IsAggregationOnly, Addition, addition_keys, numbers_at, added, totals, who}
 use Rattle.bt_meaning.specs.Walks.{replay_of}
-use Rattle.run_laws.specs.Reads.{BeginsWith, add_steps_of}
+use Rattle.total_laws.specs.Reads.{BeginsWith, add_steps_of}
 
 -- ---- runs that only add
 

@@ -1,1 +1,4 @@
 pub mod Ends
+pub mod Reads
+pub mod Calls
+pub mod WalkCalls

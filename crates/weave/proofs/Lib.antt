@@ -22,3 +22,5 @@ mod Picking
 mod Stable
 mod Sending
 mod Spotted
+pub mod Closing
+pub mod EndedTraces

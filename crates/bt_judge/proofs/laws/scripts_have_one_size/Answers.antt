@@ -1,7 +1,7 @@
 use Rattle.std.proofs.Common.{ap}
 use Rattle.script_programs.specs.Sizes.{first_size_fault}
 use Rattle.typed_tree.specs.declared.script.Typed.{Typed}
-use Rattle.typing_laws.proofs.Typings.{scripts_same}
+use Rattle.bt_job.proofs.Typings.{scripts_same}
 use Rattle.bt_judge.proofs.laws.scripts_have_one_size.Goals as goal
 
 pub returns : goal.returns

@@ -1,4 +1,4 @@
-use Rattle.big_script.specs.declared.script.TheConstants.{SCRIPT}
+use Rattle.rec_gen.specs.declared.script.TheConstants.{SCRIPT}
 use Rattle.bt_judge.proofs.Scripts.{AreScriptLaws}
 use Rattle.bt_top.proofs.Making.{only_memory}
 use Rattle.bt_top.proofs.made.big_script_job.Goals as goal

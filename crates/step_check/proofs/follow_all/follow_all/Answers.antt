@@ -3,7 +3,7 @@ use Rattle.actor_plan.specs.Plans.{Plan}
 use Rattle.actor_plan.specs.Programs.{actor_program, begin_program}
 use Rattle.step_follower.specs.declared.follow.Reached.{Reached}
 use Rattle.step_follower.specs.Followed.{IsFollowed}
-use Rattle.weave_check.specs.Stops.{AreReached, ArePassed, IsPassed}
+use Rattle.step_check.specs.Stops.{AreReached, ArePassed, IsPassed}
 use Rattle.step_check.specs.Plans.{replay_by}
 use Rattle.step_check.proofs.FollowAll.{AreFollowed, all_reached, followed_more, same_but_items}
 use Rattle.step_check.proofs.follow_all.follow_all.Goals as goal

@@ -1,6 +1,6 @@
 use Rattle.std.proofs.Common.{max, refl, sym, ap, ◌∙◌, subst}
 use Rattle.stamped.specs.Traces.{clock_of}
-use Rattle.run_ends.specs.Ends.{latest}
+use Rattle.weave.specs.Ends.{latest}
 use Rattle.cpu_worker.specs.Worlds.{sets_in, AreTurnsOf, IsPlanIn}
 use Rattle.thread_actors.proofs.actors.end_all.Goals as goal
 

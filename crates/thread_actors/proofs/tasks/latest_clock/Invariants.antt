@@ -1,5 +1,5 @@
 use Rattle.std.proofs.Common.{◌≡◌, max, drop}
-use Rattle.run_ends.specs.Ends.{latest}
+use Rattle.weave.specs.Ends.{latest}
 use Rattle.thread_actors.proofs.tasks.latest_clock.Given as goal
 
 abbrev pub invariant-loop-trace : goal.invariant-loop-trace

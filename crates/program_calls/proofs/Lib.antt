@@ -1,2 +1,0 @@
-mod ProgramCalls
-mod StepCalls

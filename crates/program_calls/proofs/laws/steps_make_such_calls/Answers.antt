@@ -1,5 +1,0 @@
-use Rattle.program_calls.proofs.StepCalls.{steps_call}
-use Rattle.program_calls.proofs.laws.steps_make_such_calls.Goals as goal
-
-pub returns : goal.returns
-returns c = λ script attached r steps job is. steps_call script attached r job steps is (c.steps_are_own.ensures script attached r steps job is)

@@ -1,5 +1,0 @@
-use Rattle.run_ends.proofs.Ending.{parts}
-use Rattle.run_ends.proofs.laws.ends_are_woven.Goals as goal
-
-pub returns : goal.returns
-returns c = λ answer begun finished cpus main history steps ended given moved order. parts begun finished cpus main ended answer history steps given moved order

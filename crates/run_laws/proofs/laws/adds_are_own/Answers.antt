@@ -1,5 +1,0 @@
-use Rattle.run_laws.proofs.OwnAdds.{adds_are}
-use Rattle.run_laws.proofs.laws.adds_are_own.Goals as goal
-
-pub returns : goal.returns
-returns c = λ script attached r steps job is. adds_are steps (c.steps_make_such_calls.ensures script attached r steps job is)

@@ -1,5 +1,0 @@
-use Rattle.run_laws.proofs.ReadLemmas.{sees_beginning}
-use Rattle.run_laws.proofs.laws.reads_see_beginnings.Goals as goal
-
-pub returns : goal.returns
-returns c = λ p steps is actor map before s after e at does. sees_beginning p actor steps is before s after e at

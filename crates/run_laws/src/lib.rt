@@ -1,4 +1,0 @@
-//! Laws of the lists of steps that runs hand back.
-#![tactic(auto)]
-
-pub mod laws;

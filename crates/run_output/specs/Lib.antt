@@ -1,2 +1,0 @@
-pub mod JsonLines
-pub mod Outputs

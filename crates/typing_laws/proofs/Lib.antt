@@ -1,7 +1,0 @@
-mod Apart
-mod Exprs
-mod Finding
-mod Reader
-mod Stmts
-pub mod Typings
-mod Words

@@ -1,5 +1,0 @@
-use Rattle.walk_calls.proofs.WalkCalls.{walk_calls}
-use Rattle.walk_calls.proofs.laws.walks_make_such_calls.Goals as goal
-
-pub returns : goal.returns
-returns c = λ body context payload actor actors. walk_calls body context payload actor actors

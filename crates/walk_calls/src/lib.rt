@@ -1,4 +1,0 @@
-//! What calls the walks of bodies make.
-#![tactic(auto)]
-
-pub mod laws;
