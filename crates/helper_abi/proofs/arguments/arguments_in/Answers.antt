@@ -1,4 +1,4 @@
-use Rattle.std.proofs.Common.{◌∙◌, ◌++◌, drop, ◌+◌, ap, sym, ◌≡◌}
+use Rattle.std.proofs.Common.{◌∙◌, ◌++◌, drop, ◌+◌, ap, sym}
 use Rattle.fmt_text.specs.Arguments.{argument_shapes}
 use Rattle.helper_abi.specs.Reading.{values_in, bytes_of_shapes}
 use Rattle.helper_abi.proofs.ReadingLemmas.{wants_one, wants_none, wants_no_more, one_more, bytes_further, enough_bytes, no_more}

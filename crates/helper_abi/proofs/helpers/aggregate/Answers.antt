@@ -1,8 +1,7 @@
-use Rattle.std.proofs.Common.{◌≡◌, ℕ, List, Bool, Some, sym, ap, ◌∙◌, subst}
+use Rattle.std.proofs.Common.{◌≡◌, List, Some, sym, ◌∙◌, subst, SFits, w64, rules}
 use Rattle.bt_core.specs.declared.map.Shape.{Shape}
 use Rattle.bt_core.specs.Kinds.{HasShape}
 use Rattle.helper_abi.specs.Reading.{values_at}
-use Rattle.std.proofs.Common.{SFits, w64, rules}
 use Rattle.std.specs.Prelude.{ℤ}
 use Rattle.std.proofs.lemmas.Int.{to_z-of_z}
 use Rattle.bt_core.specs.declared.step.ObjectId.TheVariants.{Cpu}
