@@ -6,6 +6,10 @@ use Rattle.run_objects.proofs.KindLemmas.{can_any, last_is_of_its_kind}
 use Rattle.bt_run.proofs.StepLemmas.{run_more, run_kept}
 use Rattle.bt_run.proofs.port.make_step.Goals as goal
 
+pub returns-in-Err-clause-run : goal.returns-in-Err-clause-run
+returns-in-Err-clause-run c = let r = c.args.run.now in
+    subst (λ l. IsRunOf (world_of r) r.objects r.lasts.items r.top l r.turn) (sym c.reserve.ensures.steps) c.requires.run
+
 pub returns-in-Err-take_at-clause-run : goal.returns-in-Err-take_at-clause-run
 returns-in-Err-take_at-clause-run c = let r = c.args.run.now in let run = c.requires.run in
     let own = can_any (world_of r) r.turn.actor 0 c.args.object c.args.op c.requires.can in
