@@ -60,3 +60,16 @@ Called-after t k old mid new a (Ok n) frame p q = Whole-and_then t k old mid new
 Called-after t k old mid new a (Err Address) frame p q = Whole-and_then t k old mid new a _ p q
 Called-after t k old mid new a (Err Helper) frame p q = Whole-and_then t k old mid new a _ p q
 Called-after t k old mid new a (Err (Memory m)) frame p q = Part-after t k old mid new a p q
+
+-- the frame has no room, whatever is read
+pub read-no-room : {A : Type 0} (o : Option A) (to n : ℕ) (go : A → Interaction Answer) (steps : List Step) → is_in_frame to n ≡ false → Whole (with_read o (λ a. with_room to n (go a))) steps steps BadBytes
+read-no-room None to n go steps e = Whole-Ended BadBytes BadBytes steps refl
+read-no-room (Some a) to n go steps e = room-none to n (go a) steps [] e
+
+-- a second thing that is read is not there, whatever the first is
+pub read-no-second : {A B : Type 0} (o : Option A) (p : Option B) (go : A → B → Interaction Answer) (steps : List Step) → p ≡ None → Whole (with_read o (λ a. with_read p (go a))) steps steps BadBytes
+read-no-second None p go steps e = Whole-Ended BadBytes BadBytes steps refl
+read-no-second (Some a) p go steps e = read-none p (go a) steps [] e
+
+pub whole-some : {A : Type 0} (o : Option A) (go : A → Interaction Answer) (a : A) (old new : List Step) (b : Answer) → o ≡ Some a → Whole (go a) old new b → Whole (in_range o go) old new b
+whole-some {A} o go a old new b e h = subst (λ (x : Option A). Whole (in_range x go) old new b) (sym e) h

@@ -7,6 +7,7 @@ use Rattle.std.proofs.lemmas.Bool.{and_parts, ltb-true, leb-true}
 use Rattle.bt_core.specs.declared.limits.TheConstants.{KEY_PARTS}
 use Rattle.bt_core.specs.declared.map.MapDecl.{MapDecl}
 use Rattle.bt_core.specs.declared.map.MapKind.{MapKind}
+use Rattle.bt_core.specs.declared.map.Shape.{Shape}
 use Rattle.bt_core.specs.declared.map.MapKind.TheVariants.{Ints, Strs, Aggs}
 use Rattle.bt_core.specs.declared.step.ObjectId.TheVariants.{Cpu}
 use Rattle.bt_core.specs.declared.step.Op.{Op}
@@ -135,3 +136,7 @@ can_sweep maps setting n decl actors serves e tables = record {
   declared = served_at maps setting n decl (λ d. d.kind ≡ decl.kind) serves (there maps n decl e) refl;
   tables = tables;
 }
+
+-- whether the frame has room for a value of a map
+pub room_is : (kind : MapKind) (h : Shape) (n to : ℕ) (b : Bool) → h ≡ shape_of_kind kind → n ≡ shape_bytes h → b ≡ is_in_frame to n → is_in_frame to (shape_bytes (shape_of_kind kind)) ≡ b
+room_is kind h n to b shape bytes room = ap (λ (m : ℕ). is_in_frame to m) (ap shape_bytes (sym shape) ∙ sym bytes) ∙ sym room

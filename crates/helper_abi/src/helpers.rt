@@ -103,14 +103,14 @@ pub fn get<P: Port>(
     let Some(decl) = value_map(maps, map) else {
         return Err(PortFault::Helper);
     };
-    let key = match key_at(alloc, memory, decl.key_shape.as_slice(), key) {
-        Ok(key) => key,
-        Err(fault) => return Err(fault),
-    };
     if !memory.in_frame(to, shape_bytes(shape_of_kind(decl.kind))) {
         return Err(PortFault::Address);
     }
-    get_into(alloc, port, MapId(map as u32), key, to, memory)
+    let map = MapId(map as u32);
+    match key_at(alloc, memory, decl.key_shape.as_slice(), key) {
+        Ok(key) => get_into(alloc, port, map, key, to, memory),
+        Err(fault) => Err(fault),
+    }
 }
 
 /// The value at an address is set under the key at another.
@@ -131,12 +131,12 @@ pub fn set<P: Port>(
     let Some(decl) = value_map(maps, map) else {
         return Err(PortFault::Helper);
     };
+    let Some(value) = value_at(memory, shape_of_kind(decl.kind), value) else {
+        return Err(PortFault::Address);
+    };
     let key = match key_at(alloc, memory, decl.key_shape.as_slice(), key) {
         Ok(key) => key,
         Err(fault) => return Err(fault),
-    };
-    let Some(value) = value_at(memory, shape_of_kind(decl.kind), value) else {
-        return Err(PortFault::Address);
     };
     let object = part(MapId(map as u32), &key);
     tell(alloc, port, object, Op::Set(key, value), memory)
@@ -217,15 +217,17 @@ pub fn read_agg<P: Port>(
     let Some(decl) = summed_map(maps, map) else {
         return Err(PortFault::Helper);
     };
+    if !memory.in_frame(to, 8) {
+        return Err(PortFault::Address);
+    }
     let key = match key_at(alloc, memory, decl.key_shape.as_slice(), key) {
         Ok(key) => key,
         Err(fault) => return Err(fault),
     };
-    if !memory.in_frame(to, 8) {
-        return Err(PortFault::Address);
-    }
     let map = MapId(map as u32);
-    sum_into(alloc, port, decl.kind, map, &key, to, actors, memory)
+    let answer = sum_into(alloc, port, decl.kind, map, &key, to, actors, memory);
+    drop(key);
+    answer
 }
 
 /// The merged rows of a map are emitted.

@@ -1,21 +1,24 @@
 -- What places tell, with keys and deeds behind those that there are.
-use Rattle.std.proofs.Common.{◌≡◌, ◌≢◌, ℕ, zero, suc, ◌+◌, ◌<◌, ◌≤◌, nat_lt, true, List, [], ◌∷◌, ◌++◌, length, get_or, take, slice_get, Some, None, refl, sym, ap, ◌∙◌, subst, arith, length-append, append_assoc, add-one}
+use Rattle.std.proofs.Common.{◌≡◌, ◌≢◌, ℕ, zero, suc, ◌+◌, ◌<◌, ◌≤◌, nat_lt, true, false, List, [], ◌∷◌, ◌++◌, length, get_or, take, slice_get, Some, None, refl, sym, ap, ◌∙◌, subst, arith, length-append, append_assoc, add-one}
 use Rattle.std.proofs.Math.Seq.{take-suc}
 use Rattle.std.proofs.Math.ListN.{get_or-append}
-use Rattle.std.proofs.lemmas.List.{get_or_default}
-use Rattle.std.proofs.lemmas.Bool.{and_from, and_parts}
+use Rattle.std.proofs.lemmas.List.{get_or_default, get_or_past, get_or_push, length_push}
+use Rattle.std.proofs.lemmas.Bool.{and_from, and_parts, ltb-false}
 use Rattle.std.proofs.lemmas.Bool.Decides.{nat_tests}
 use Rattle.bt_core.specs.declared.item.Item.{Item}
 use Rattle.bt_core.specs.declared.step.ObjectId.{ObjectId}
+use Rattle.bt_core.specs.declared.step.ObjectId.TheVariants.{Out}
 use Rattle.bt_core.specs.declared.step.Op.{Op}
+use Rattle.bt_core.specs.declared.step.Op.TheVariants.{Emit}
 use Rattle.bt_core.specs.declared.step.Step.{Step}
 use Rattle.bt_core.specs.declared.step.Reply.{Reply}
+use Rattle.bt_core.specs.declared.step.Reply.TheVariants.{Done}
 use Rattle.bt_core.specs.declared.value.Value.{Value}
 use Rattle.step_list.specs.declared.deed.Deed.{Deed}
 use Rattle.step_list.specs.declared.deed.Mark.{Mark}
 use Rattle.step_list.specs.declared.deed.Mark.TheVariants as marks
 use Rattle.step_list.specs.declared.list.Place.{Place}
-use Rattle.step_list.specs.Deeds.{deed, deed_of, is_within, no_deed, no_item, reply_told, Extends}
+use Rattle.step_list.specs.Deeds.{deed, deed_of, emitted, is_within, no_deed, no_item, reply_told, Extends}
 use Rattle.step_list.specs.Places.{step_by_deed, expanded, is_all_within, last_told}
 
 pub expanded_length : (ks : List (List Value)) (ws : List Deed) (ts : List Item) (ps : List Place) → length (expanded ks ws ts ps) ≡ length ps
@@ -171,3 +174,14 @@ module _ (ks : List (List Value)) (ws : List Deed) (ts : List Item) (ps : List P
 
   pub place_kept : (k : ℕ) → p.mark ≡ marks.Whole k → k < length ws
   place_kept k e = below k (length ws) (ap (λ (m : Mark). is_within (length ks) (length ws) (length ts) m) (sym e) ∙ last.within)
+
+-- a number that is none of a whole deed's tells no deed
+pub none_told : (ks : List (List Value)) (ws : List Deed) (ts : List Item) (m : Mark) (k : ℕ) → m ≡ marks.Whole k → false ≡ nat_lt k (length ws) → no_deed ≡ deed_of ks ws ts m
+none_told ks ws ts m k e past = sym (ap (deed_of ks ws ts) e ∙ get_or_past ws k no_deed (ltb-false k (length ws) (sym past)))
+
+-- what was printed is the last of the printed items
+pub print_kept : (d : Deed) (ts news : List Item) (n : ℕ) (item : Item) → d.object ≡ Out → d.op ≡ Emit item → d.reply ≡ Done → n ≡ length ts → news ≡ ts ++ item ∷ [] → (n < length news) × (d ≡ emitted d.actor (get_or news n no_item))
+print_kept d ts news n item e f g long grew =
+    let last : get_or news n no_item ≡ item = ap (λ (l : List Item). get_or l n no_item) grew ∙ get_or_push ts item no_item n (sym long) in
+    let more : length news ≡ length ts + 1 = ap length grew ∙ length_push ts item in
+    (omega (arith, more, long), λ i. deed d.actor (e i) ((f ∙ ap Emit (sym last)) i) (g i))

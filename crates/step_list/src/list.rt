@@ -152,15 +152,13 @@ impl StepList {
         ensures kept { HasPlace self.old → HasPlace self.new }
         ensures free { HasPlace self.old → IsOk result }
     {
-        self.places.reserve(1)?;
-        self.keys.reserve(1)?;
-        self.whole.reserve(1)?;
-        if self.keys.len() >= self.slots.len() {
-            if let Ok(slots) = slots_for(alloc, self.keys.as_slice()) {
-                self.slots = slots;
-            }
-        }
-        Ok(())
+        reserve_one(
+            alloc,
+            &mut self.places,
+            &mut self.keys,
+            &mut self.slots,
+            &mut self.whole,
+        )
     }
 
     /// Adds a step behind all others. There is room for it.
@@ -184,6 +182,33 @@ impl StepList {
         note_last(&mut self.last, &mark);
         self.places.push_reserved(Place { stamp, mark });
     }
+}
+
+/// Makes room for one place, one key and one deed more, and for the numbers of more keys where the slots are as many as the keys.
+fn reserve_one(
+    alloc: Global,
+    places: &mut Vec<Place>,
+    keys: &mut Vec<Key>,
+    slots: &mut Vec<u32>,
+    whole: &mut Vec<Deed>,
+) -> Result<(), Memory>
+    ensures places { places.new.items ≡ places.old.items }
+    ensures keys { keys.new.items ≡ keys.old.items }
+    ensures whole { whole.new.items ≡ whole.old.items }
+    ensures room { OnOk result ((vec_len places.new < vec_capacity places.new) × (vec_len keys.new < vec_capacity keys.new) × (vec_len whole.new < vec_capacity whole.new)) }
+    ensures kept { (vec_len places.old < vec_capacity places.old) × (vec_len keys.old < vec_capacity keys.old) × (vec_len whole.old < vec_capacity whole.old)
+        → (vec_len places.new < vec_capacity places.new) × (vec_len keys.new < vec_capacity keys.new) × (vec_len whole.new < vec_capacity whole.new) }
+    ensures free { (vec_len places.old < vec_capacity places.old) × (vec_len keys.old < vec_capacity keys.old) × (vec_len whole.old < vec_capacity whole.old) → IsOk result }
+{
+    places.reserve(1)?;
+    keys.reserve(1)?;
+    whole.reserve(1)?;
+    if keys.len() >= slots.len() {
+        if let Ok(wider) = slots_for(alloc, keys.as_slice()) {
+            *slots = wider;
+        }
+    }
+    Ok(())
 }
 
 /// Keeps the reply that a mark tells by itself. Most are `Done` behind `Done`, and then nothing is written.

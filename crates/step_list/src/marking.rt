@@ -239,8 +239,17 @@ fn keep_print(prints: &mut PrintList, deed: &Deed) -> Option<u32>
     if prints.len() >= 0xffff_ffff {
         return None;
     }
-    match (deed.object, &deed.op, &deed.reply) {
-        (ObjectId::Out, Op::Emit(Item::Printf { format, values }), Reply::Done) => {
+    let ObjectId::Out = deed.object else {
+        return None;
+    };
+    let Reply::Done = &deed.reply else {
+        return None;
+    };
+    let Op::Emit(item) = &deed.op else {
+        return None;
+    };
+    match item {
+        Item::Printf { format, values } => {
             let print = prints.len() as u32;
             match prints.push(*format, values.as_slice()) {
                 Ok(()) => Some(print),

@@ -1,5 +1,9 @@
-use Rattle.std.proofs.Common.{sym}
-use Rattle.helper_abi.proofs.CanDo.{value_map-is, few}
+use Rattle.std.proofs.Common.{◌≡◌, List, Some, sym, subst}
+use Rattle.bt_core.specs.declared.map.Shape.{Shape}
+use Rattle.bt_core.specs.Kinds.{HasShape}
+use Rattle.helper_abi.specs.Reading.{values_at}
+use Rattle.helper_abi.proofs.CanDo.{value_map-is, few, small, can_delete}
+use Rattle.helper_abi.proofs.Callings.{range-some, read-some, fault-some, fault-read}
 use Rattle.helper_abi.proofs.helpers.delete.Goals as goal
 
 pub key_at-requires : goal.key_at-requires
@@ -7,3 +11,24 @@ key_at-requires g c =
     let decl = c.in-Some.decl.now in
     let found = value_map-is c.args.maps.now c.args.map decl (sym c.in-Some.ensures) in
     rw c.as_slice.ensures (few c.args.maps.now (g.P.Port.fixed c.args.port.now).setting c.args.map decl c.requires found.0)
+
+pub returns-in-Err-clause-called : goal.returns-in-Err-clause-called
+returns-in-Err-clause-called g c =
+    fault-some _ _ c.in-Some.decl.now _ _ _ (sym c.in-Some.ensures) (fault-read _ _ c.in-Err.fault _ (rw c.as_slice.ensures at c.in-Err.ensures.read))
+
+pub returns-clause-called : goal.returns-clause-called
+returns-clause-called g c =
+    let key = subst (λ (hs : List Shape). values_at c.args.memory.now hs c.args.key ≡ Some c.in-Ok.key) c.as_slice.ensures c.in-Ok.ensures.read in
+    let told = rw c.part-object.ensures at c.tell.ensures.called in
+    range-some _ _ c.in-Some.decl.now _ _ _ _ (sym c.in-Some.ensures) (read-some _ _ c.in-Ok.key _ _ _ _ key told)
+
+pub tell-requires : goal.tell-requires
+tell-requires g c =
+    let decl = c.in-Some.decl.now in
+    let shaped = subst (λ (hs : List Shape). HasShape hs c.in-Ok.key) c.as_slice.ensures c.in-Ok.ensures.shaped in
+    rw c.part-object.ensures (can_delete c.args.maps.now (g.P.Port.fixed c.args.port.now).setting c.args.map decl c.requires c.in-Ok.key shaped (sym c.in-Some.ensures))
+
+pub overflow_cast-map : goal.overflow_cast-map
+overflow_cast-map g c =
+    let decl = c.in-Some.decl.now in
+    record { fits = small c.args.maps.now c.args.map decl (value_map-is c.args.maps.now c.args.map decl (sym c.in-Some.ensures)).0 }

@@ -1,6 +1,8 @@
 use Rattle.std.proofs.Common.{ap, sym, ◌∙◌}
 use Rattle.std.proofs.lemmas.Result.{err_from_is_err_and}
 use Rattle.bt_core.specs.declared.step.Op.TheVariants as ops
+use Rattle.std.proofs.Common.{SFits, w64, rules}
+use Rattle.std.proofs.lemmas.Int.{to_z-of_z}
 use Rattle.step_list.proofs.deed.copy_op.Goals as goal
 
 pub returns-in-Clear : goal.returns-in-Clear
@@ -56,3 +58,8 @@ returns-in_ok-try_copy-in-Emit c = ap ops.Emit c.in_ok-try_copy-in-Emit.ensures 
 
 pub returns-in_err-try_copy-in-Emit : goal.returns-in_err-try_copy-in-Emit
 returns-in_err-try_copy-in-Emit c = rw (err_from_is_err_and c.from_residual-in_err-try_copy-in-Emit.result c.from_residual-in_err-try_copy-in-Emit.ensures.1).1 tt
+
+pub returns-in_ok-try_copy-in-Add : goal.returns-in_ok-try_copy-in-Add
+returns-in_ok-try_copy-in-Add c =
+    let fits : SFits w64 c.in-Add.number = search rules in
+    (λ i. ops.Add c.in-Add.map (c.in_ok-try_copy-in-Add.ensures i) (to_z-of_z w64 c.in-Add.number fits i)) ∙ sym c.in-Add.is
