@@ -47,6 +47,14 @@ module _ {A B : Type 0} (d : Does A) (k : A → Does B) (scene : BodyScene) (fra
     Walked-next new (Ok b) after q = Whole-next new (b, after) q
     Walked-next new (Err x) after q = Part-next new q
 
+-- what is done and then gives a value, which is told by one call
+pub Walked-given : {A : Type 0} (d : Does (Unit {0})) (a : A) (scene : BodyScene) (frame : Frame) (old new : List Step) (done : Result (Unit {0}) Memory) (r : Result A Memory) (after : Frame) →
+    MatchResult done (λ _. r ≡ Ok a) (λ e. r ≡ Err e) → Walked d scene frame old new done after → Walked (bind d (λ _. given a)) scene frame old new r after
+Walked-given {A} d a scene frame old new (Ok u) r after is w =
+    subst (λ (o : Result A Memory). Walked (bind d (λ _. given a)) scene frame old new o after) (sym is) (Whole-next d (λ _. given a) scene frame old after new u w new (a, after) (Given-done a a scene after after new refl refl))
+Walked-given {A} d a scene frame old new (Err e) r after is w =
+    subst (λ (o : Result A Memory). Walked (bind d (λ _. given a)) scene frame old new o after) (sym is) (Part-first d (λ _. given a) scene frame old new w)
+
 -- what objects were asked, by what is seen
 module _ {A : Type 0} (ask : BodyScene → Interaction A) (scene : BodyScene) (frame : Frame) (old new : List Step) where
   pub Lifted-done : (a : A) → Whole (ask scene) old new a → Whole (lifted ask scene frame) old new (a, frame)
@@ -62,6 +70,9 @@ module _ {A : Type 0} (ask : BodyScene → Interaction A) (scene : BodyScene) (f
   Lifted-walked (Err x) p = Lifted-begun p
 
   -- by another name of what is asked
+  pub Asked-walked : (t : Interaction A) (r : Result A Memory) → t ≡ ask scene → Performed t old new r → Walked (lifted ask) scene frame old new r frame
+  Asked-walked t r e p = Lifted-walked r (subst (λ (x : Interaction A). Performed x old new r) e p)
+
   pub Asked-done : (t : Interaction A) (a : A) → t ≡ ask scene → Whole t old new a → Whole (lifted ask scene frame) old new (a, frame)
   Asked-done t a e p = Lifted-done a (subst (λ (x : Interaction A). Whole x old new a) e p)
 

@@ -4,16 +4,16 @@ ghost use Rattle.bt_core.specs.Arithmetic.{truth};
 ghost use Rattle.bt_core.specs.declared.step.Op.TheVariants as ops;
 ghost use Rattle.bt_core.specs.Ports.{CanStep};
 ghost use Rattle.map_ops.specs.Holders.{part};
-ghost use Rattle.walk_meaning.specs.Maps.{variable, with_variable, set, delete};
+ghost use Rattle.walk_meaning.specs.Maps.{variable, with_variable, get, set, delete};
 ghost use Rattle.bt_walk.specs.Walked.{WalkedAnywhere};
 
 use bt_core::key::Key;
 use bt_core::map::MapId;
-use bt_core::memory::Memory;
+use bt_core::memory::{Memory, TryCopy};
 use bt_core::port::Port;
 use bt_core::step::Op;
 use bt_core::value::Value;
-use map_ops::access::{part, tell};
+use map_ops::access::{get, part, tell};
 use std::alloc::Global;
 use walk_meaning::flow::Frame;
 
@@ -42,6 +42,21 @@ pub fn assign(number: u32, value: Value, frame: &mut Frame)
     if place < frame.variables.len() {
         frame.variables.set(place, value);
     }
+}
+
+/// The value of a map under a key that is kept.
+pub fn value_under<P: Port>(
+    alloc: Global,
+    map: MapId,
+    key: &Key,
+    port: &mut P,
+) -> Result<Value, Memory>
+    requires { CanStep (P.fixed port.old).setting (part map key.now) (ops.Get key.now) }
+    ensures made { WalkedAnywhere (get map key.now) (P.steps port.old) (P.steps port.new) result }
+    ensures kept { P.fixed port.new ≡ P.fixed port.old }
+{
+    let again = key.try_copy(alloc)?;
+    get(alloc, map, again, port)
 }
 
 /// Sets the value of a map under a key.

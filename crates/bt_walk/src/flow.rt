@@ -1,9 +1,11 @@
 // Where statements lead.
-ghost use Rattle.std.specs.Prelude.{◌≡◌};
+ghost use Rattle.std.specs.Prelude.{◌≡◌, Err, MatchResult, Ok};
 ghost use Rattle.bt_walk.specs.Flows.{is_next, leaves};
+ghost use Rattle.walk_meaning.specs.declared.flow.Flow.TheVariants as flows;
 ghost use Rattle.walk_meaning.specs.Walk.{ending_of};
 
 use bt_core::ending::Ending;
+use bt_core::memory::Memory;
 use walk_meaning::flow::Flow;
 
 /// Whether the next statement follows.
@@ -39,5 +41,15 @@ pub fn ending_of(flow: Flow) -> Ending
         Flow::Break => Ending::End,
         Flow::Continue => Ending::End,
         Flow::Stop(ending) => ending,
+    }
+}
+
+/// What a statement leads to whose last part was done, or not for want of memory: the next one.
+pub fn next_after(done: Result<(), Memory>) -> Result<Flow, Memory>
+    ensures { MatchResult done (λ _. result ≡ Ok flows.Next) (λ error. result ≡ Err error) }
+{
+    match done {
+        Ok(()) => Ok(Flow::Next),
+        Err(error) => Err(error),
     }
 }

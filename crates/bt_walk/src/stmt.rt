@@ -12,7 +12,8 @@ ghost use Rattle.bt_walk.specs.Walked.{Walked, WalkedAnywhere};
 ghost use Rattle.walk_meaning.specs.Served.{IsServed, Fits, HoldsUnder, all_made, scene_in};
 ghost use Rattle.walk_meaning.specs.declared.flow.Frame.{Frame as Kept};
 
-use crate::access::{assign, delete, set, variable};
+use crate::access::{assign, delete, set, value_under, variable};
+use crate::flow::next_after;
 use crate::value::{number, value, values};
 use crate::view::kind_in_body;
 use bt_core::arithmetic::binary;
@@ -20,12 +21,12 @@ use bt_core::ending::Ending;
 use bt_core::item::Item;
 use bt_core::key::Key;
 use bt_core::map::{AggKind, MapId};
-use bt_core::memory::{Memory, TryCopy};
+use bt_core::memory::Memory;
 use bt_core::operator::BinOp;
 use bt_core::port::Port;
 use bt_core::step::{ObjectId, Op};
 use bt_core::value::Value;
-use map_ops::access::{get, tell};
+use map_ops::access::tell;
 use map_ops::printing::print_map;
 use map_ops::sweep::{Sweep, ask_each};
 use map_ops::values::number_of;
@@ -94,8 +95,7 @@ pub fn set_map<P: Port>(
 {
     let key = key(alloc, view, keys, frame, port)?;
     let value = value(alloc, view, e, frame, port)?;
-    set(alloc, map, key, value, port)?;
-    Ok(Flow::Next)
+    next_after(set(alloc, map, key, value, port))
 }
 
 /// `$var op= value`.
@@ -158,12 +158,10 @@ fn update_at<P: Port>(
     ensures made { WalkedAnywhere (update_at map key op b) (P.steps port.old) (P.steps port.new) result }
     ensures kept { P.fixed port.new ≡ P.fixed port.old }
 {
-    let again = key.try_copy(alloc)?;
-    let value = get(alloc, map, again, port)?;
+    let value = value_under(alloc, map, &key, port)?;
     let old = number_of(&value);
     let new = binary(op, old, b);
-    set(alloc, map, key, Value::Int(new), port)?;
-    Ok(Flow::Next)
+    next_after(set(alloc, map, key, Value::Int(new), port))
 }
 
 /// `map[keys] = sum(number)` and the like. `count()` has no number, and takes in 1.
@@ -186,8 +184,8 @@ pub fn gather<P: Port>(
 {
     let key = key(alloc, view, keys, frame, port)?;
     let n = number_or_one(alloc, view, number, frame, port)?;
-    tell(alloc, ObjectId::Cpu(view.actor), Op::Add(map, key, n), port)?;
-    Ok(Flow::Next)
+    let added = tell(alloc, ObjectId::Cpu(view.actor), Op::Add(map, key, n), port);
+    next_after(added)
 }
 
 /// The number that an aggregation takes in.
@@ -244,13 +242,8 @@ pub fn printf<P: Port>(
     ensures turns { frame.new.turns ≡ frame.old.turns }
 {
     let values = values(alloc, view, es, frame, port)?;
-    tell(
-        alloc,
-        ObjectId::Out,
-        Op::Emit(Item::Printf { format, values }),
-        port,
-    )?;
-    Ok(Flow::Next)
+    let item = Item::Printf { format, values };
+    next_after(tell(alloc, ObjectId::Out, Op::Emit(item), port))
 }
 
 /// `print(map, top, div)`: one item with the merged rows of all objects that hold the map, also where there are none.
@@ -268,8 +261,8 @@ pub fn print<P: Port>(
     ensures kept { P.fixed port.new ≡ P.fixed port.old }
 {
     let kind = kind_in_body(map, view.body.maps.as_slice());
-    print_map(alloc, kind, map, top, div, view.actors, port)?;
-    Ok(Flow::Next)
+    let printed = print_map(alloc, kind, map, top, div, view.actors, port);
+    next_after(printed)
 }
 
 /// `clear(map)`.
@@ -322,8 +315,7 @@ pub fn delete_at<P: Port>(
     ensures turns { frame.new.turns ≡ frame.old.turns }
 {
     let key = key(alloc, view, keys, frame, port)?;
-    delete(alloc, map, key, port)?;
-    Ok(Flow::Next)
+    next_after(delete(alloc, map, key, port))
 }
 
 /// `break`, `continue`, `exit()` and `return`.

@@ -1,5 +1,5 @@
 // The evaluation of expressions through a port.
-ghost use Rattle.std.specs.Prelude.{◌≡◌, ◌≤◌, length, cond, not, IfOk, IsTrue};
+ghost use Rattle.std.specs.Prelude.{◌≡◌, ◌≤◌, length, cond, not, Err, IfOk, IsTrue, MatchResult, Ok};
 ghost use Rattle.std.specs.Str.{bytes_eq};
 ghost use Rattle.bt_core.specs.declared.map.MapKind.TheVariants as kinds;
 ghost use Rattle.bt_core.specs.declared.value.Value.TheVariants as values;
@@ -15,14 +15,14 @@ ghost use Rattle.walk_meaning.specs.Does.{in_order};
 ghost use Rattle.bt_walk.specs.Walked.{Walked, WalkedAnywhere};
 ghost use Rattle.walk_meaning.specs.Served.{all_made, IsServed, Fits, NamesShared, HoldsUnder, scene_in};
 
-use crate::access::{assign, set, truth, variable};
+use crate::access::{assign, set, truth, value_under, variable};
 use crate::view::kind_in_body;
 use bt_core::arithmetic::{binary, unary};
 use bt_core::boxed::Boxed;
 use bt_core::items::Items;
 use bt_core::key::Key;
 use bt_core::map::MapId;
-use bt_core::memory::{Memory, TryCopy};
+use bt_core::memory::Memory;
 use bt_core::operator::BinOp;
 use bt_core::port::Port;
 use bt_core::text::Str64;
@@ -349,6 +349,23 @@ fn compared(equal: bool, a: &Str64, b: &Str64) -> bool
     if equal { same } else { !same }
 }
 
+/// What a step gives: the new value as a prefix, and else the old one.
+fn stepped(prefix: bool, new: i64, old: i64) -> i64
+    ensures { result ≡ cond prefix new old }
+{
+    if prefix { new } else { old }
+}
+
+/// The number that something gives once it was done, or none for want of memory.
+fn number_after(done: Result<(), Memory>, number: i64) -> Result<i64, Memory>
+    ensures { MatchResult done (λ _. result ≡ Ok number) (λ error. result ≡ Err error) }
+{
+    match done {
+        Ok(()) => Ok(number),
+        Err(error) => Err(error),
+    }
+}
+
 /// Steps a variable, and gives its new value or its old one.
 fn step_variable(var: u32, plus: bool, prefix: bool, frame: &mut Frame) -> i64
     ensures value { result ≡ cond prefix (next plus (number_of (variable var frame.old))) (number_of (variable var frame.old)) }
@@ -357,7 +374,7 @@ fn step_variable(var: u32, plus: bool, prefix: bool, frame: &mut Frame) -> i64
     let old = number_of(&variable(var, frame));
     let new = next(plus, old);
     assign(var, Value::Int(new), frame);
-    if prefix { new } else { old }
+    stepped(prefix, new, old)
 }
 
 /// The number of an aggregation under a key, over the tables of all actors.
@@ -391,10 +408,9 @@ fn step_map<P: Port>(
     ensures made { WalkedAnywhere (step_at map key plus prefix) (P.steps port.old) (P.steps port.new) result }
     ensures kept { P.fixed port.new ≡ P.fixed port.old }
 {
-    let again = key.try_copy(alloc)?;
-    let value = get(alloc, map, again, port)?;
+    let value = value_under(alloc, map, &key, port)?;
     let old = number_of(&value);
     let new = next(plus, old);
-    set(alloc, map, key, Value::Int(new), port)?;
-    if prefix { Ok(new) } else { Ok(old) }
+    let set = set(alloc, map, key, Value::Int(new), port);
+    number_after(set, stepped(prefix, new, old))
 }

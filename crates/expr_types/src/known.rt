@@ -1,5 +1,5 @@
 // What is known at a place of the walk: what earlier mentions decided.
-ghost use Rattle.std.specs.Prelude.{◌≡◌, ◌==◌, ◌≤◌, ◌^◌, true, false, Some, None, OnOk, OnErr, IfOk, MatchOption, slice_get};
+ghost use Rattle.std.specs.Prelude.{◌≡◌, ◌==◌, ◌++◌, ◌∷◌, ◌≤◌, ◌^◌, [], true, false, Some, None, OnOk, OnErr, IfOk, MatchOption, slice_get};
 ghost use Rattle.std.specs.List.{list_any};
 ghost use Rattle.std.specs.Option.{option_copied};
 ghost use Rattle.fmt_text.specs.Deciding.{format_pieces};
@@ -102,6 +102,14 @@ fn decl_in<'a>(decls: &'a [MapDecl], name: &[u8]) -> Option<&'a MapDecl>
     None
 }
 
+/// Adds a copy of a name to names.
+fn push_name(names: &mut Items<Items<u8>>, alloc: Global, name: &Items<u8>) -> Result<(), Memory>
+    ensures { OnOk result (names.new ≡ names.old ++ name.now ∷ []) }
+{
+    let copied = name.try_copy(alloc)?;
+    names.push(copied)
+}
+
 impl Known {
     /// What was decided of the map of this name.
     pub fn decl(&self, name: &[u8]) -> Option<&MapDecl>
@@ -145,7 +153,7 @@ impl Known {
             Some(place) => number_of(place),
             None => {
                 let number = number_of(self.names.len())?;
-                self.names.push(name.try_copy(alloc)?)?;
+                push_name(&mut self.names, alloc, name)?;
                 Ok(number)
             }
         }
@@ -156,10 +164,10 @@ impl Known {
         ensures learned { OnOk result (self.new ≡ add_number self.old number) }
         ensures here { OnOk result (list_any (λ n. n == number) self.new.named ≡ true) }
     {
-        if !has_number(self.named.as_slice(), number) {
-            self.named.push(number)?;
+        if has_number(self.named.as_slice(), number) {
+            return Ok(());
         }
-        Ok(())
+        self.named.push(number)
     }
 
     /// The number of a map, by the name of its token. It is added where it is new, to the script's maps and to those that the
@@ -177,10 +185,10 @@ impl Known {
     pub fn mention(&mut self, alloc: Global, name: &Items<u8>) -> Result<(), Memory>
         ensures { OnOk result (self.new ≡ with_mention self.old name.now) }
     {
-        if !self.is_mentioned(name.as_slice()) {
-            self.mentioned.push(name.try_copy(alloc)?)?;
+        if self.is_mentioned(name.as_slice()) {
+            return Ok(());
         }
-        Ok(())
+        push_name(&mut self.mentioned, alloc, name)
     }
 
     /// Decides what a map holds and the types of its key's parts, where that is not decided.
@@ -210,10 +218,10 @@ impl Known {
     pub fn set(&mut self, alloc: Global, name: &Items<u8>, shape: Shape) -> Result<(), Memory>
         ensures { OnOk result (self.new ≡ with_var self.old (record { name = name.now; shape = shape })) }
     {
-        if self.var(name.as_slice()).is_none() {
-            self.vars.push(alloc, name.as_slice(), shape)?;
+        if self.var(name.as_slice()).is_some() {
+            return Ok(());
         }
-        Ok(())
+        self.vars.push(alloc, name.as_slice(), shape)
     }
 
     /// Begins a body, at an event of this layout or at none.

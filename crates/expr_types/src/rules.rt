@@ -60,9 +60,14 @@ pub fn is_fine_agg(kind: AggKind) -> bool
 {
     match kind {
         AggKind::Lhist { min, max, step } => {
-            min < max
-                && step >= 1
-                && max.abs_diff(min).div_ceil(step.unsigned_abs()) <= u64::from(LHIST_BUCKETS)
+            if min >= max {
+                return false;
+            }
+            if step < 1 {
+                return false;
+            }
+            let steps = max.abs_diff(min).div_ceil(step.unsigned_abs());
+            steps <= u64::from(LHIST_BUCKETS)
         }
         _ => true,
     }

@@ -1,8 +1,8 @@
-use Rattle.std.proofs.Common.{refl, ◌∙◌}
+use Rattle.std.proofs.Common.{◌∙◌}
 use Rattle.std.proofs.lemmas.Result.{err_from_is_err_and}
 use Rattle.typed_tree.specs.Parts.{made_of, key_shapes}
 use Rattle.walk_meaning.specs.Served.{all_made}
-use Rattle.bt_walk.proofs.Binds.{Part-first, Part-next, Whole-next, Given-done, Stopped}
+use Rattle.bt_walk.proofs.Binds.{Part-first, Part-next, Walked-next, Walked-given, Stopped}
 use Rattle.walk_meaning.proofs.Declared.{valued, set_can}
 use Rattle.walk_meaning.proofs.TreeParts.{set_head}
 use Rattle.bt_walk.proofs.Statements.{set_split}
@@ -28,13 +28,9 @@ set-requires g c =
     let found = valued c.args.view.now (g.P.Port.fixed c.args.port.now).setting c.args.map (key_shapes (all_made c.args.keys.now)) (made_of c.args.e.now).shape c.requires.served (set_head c.args.view.now c.args.map (all_made c.args.keys.now) (made_of c.args.e.now) c.requires.fits) in
     rw (c.in_ok-value.ensures.kept, c.in_ok-key.ensures.kept) (set_can _ _ _ _ _ _ found c.in_ok-key.ensures.shaped c.in_ok-value.ensures.shaped)
 
-pub returns-in_err-set-clause-walked : goal.returns-in_err-set-clause-walked
-returns-in_err-set-clause-walked g c =
-    let p = err_from_is_err_and c.from_residual-in_err-set.result c.from_residual-in_err-set.ensures.1 in
-    Stopped _ _ _ _ p.1 (Part-next _ _ _ _ _ _ _ _ c.in_ok-key.ensures.walked _ (Part-next _ _ _ _ _ _ _ _ c.in_ok-value.ensures.walked _ (Part-first _ _ _ _ _ _ (c.in_err-set.ensures.made _ _))))
-
 pub returns-clause-walked : goal.returns-clause-walked
-returns-clause-walked g c = (Whole-next _ _ _ _ _ _ _ _ c.in_ok-key.ensures.walked _ _ (Whole-next _ _ _ _ _ _ _ _ c.in_ok-value.ensures.walked _ _ (Whole-next _ _ _ _ _ _ _ _ (c.in_ok-set.ensures.made _ _) _ _ (Given-done _ _ _ _ _ _ refl refl))))
+returns-clause-walked g c =
+    Walked-next _ _ _ _ _ _ _ _ c.in_ok-key.ensures.walked _ _ _ (Walked-next _ _ _ _ _ _ _ _ c.in_ok-value.ensures.walked _ _ _ (Walked-given _ _ _ _ _ _ _ _ _ c.next_after.ensures (c.set.ensures.made _ _)))
 
 pub key-requires-clause-fits : goal.key-requires-clause-fits
 key-requires-clause-fits g c = (set_split c.args.view.now c.args.map (all_made c.args.keys.now) (made_of c.args.e.now) c.requires.fits).0
@@ -48,20 +44,14 @@ returns-in_err-key-clause-kept g c = c.in_err-key.ensures.kept
 pub returns-in_err-value-clause-kept : goal.returns-in_err-value-clause-kept
 returns-in_err-value-clause-kept g c = c.in_err-value.ensures.kept ∙ c.in_ok-key.ensures.kept
 
-pub returns-in_err-set-clause-kept : goal.returns-in_err-set-clause-kept
-returns-in_err-set-clause-kept g c = c.in_err-set.ensures.kept ∙ (c.in_ok-value.ensures.kept ∙ c.in_ok-key.ensures.kept)
-
 pub returns-clause-kept : goal.returns-clause-kept
-returns-clause-kept g c = c.in_ok-set.ensures.kept ∙ (c.in_ok-value.ensures.kept ∙ c.in_ok-key.ensures.kept)
+returns-clause-kept g c = c.set.ensures.kept ∙ (c.in_ok-value.ensures.kept ∙ c.in_ok-key.ensures.kept)
 
 pub returns-in_err-key-clause-turns : goal.returns-in_err-key-clause-turns
 returns-in_err-key-clause-turns g c = c.in_err-key.ensures.turns
 
 pub returns-in_err-value-clause-turns : goal.returns-in_err-value-clause-turns
 returns-in_err-value-clause-turns g c = c.in_err-value.ensures.turns ∙ c.in_ok-key.ensures.turns
-
-pub returns-in_err-set-clause-turns : goal.returns-in_err-set-clause-turns
-returns-in_err-set-clause-turns g c = c.in_ok-value.ensures.turns ∙ c.in_ok-key.ensures.turns
 
 pub returns-clause-turns : goal.returns-clause-turns
 returns-clause-turns g c = c.in_ok-value.ensures.turns ∙ c.in_ok-key.ensures.turns

@@ -1,4 +1,5 @@
-use Rattle.std.proofs.Common.{◌≡◌, ◌+◌, List, [], ◌∷◌, map, take, sym, ap, subst, Result, Ok, Err}
+use Rattle.std.proofs.lemmas.Grind.{common_steps}
+use Rattle.std.proofs.Common.{◌≡◌, ◌+◌, List, [], ◌∷◌, map, take, sym, ap, subst, Result, Ok, Err, arith}
 use Rattle.std.proofs.lemmas.Result.{err_from_is_err_and}
 use Rattle.bt_ast.specs.declared.expr.Expr.{Expr}
 use Rattle.bt_ast.specs.declared.expr.IncDec.{out-IncDec}
@@ -247,3 +248,15 @@ check_kind-returns-in-Paren t c =
 pub check_stepped-returns : goal.check_stepped-returns
 check_stepped-returns t c =
     subst (λ (m : Made). Checked (of_step c.args.stepped.now) c.args.known.now c.check_step.new.known m) (sym (any_num c.in_ok-number.number)) c.in_ok-number.ensures
+
+pub check_all-loop-expr-smaller : goal.check_all-loop-expr-smaller
+check_all-loop-expr-smaller t c = grind (arith, common_steps)
+
+pub check_all-offset_bounds-exprs-expr-index : goal.check_all-offset_bounds-exprs-expr-index
+check_all-offset_bounds-exprs-expr-index t c = grind (arith, common_steps)
+
+pub check_all-loop-expr-init : goal.check_all-loop-expr-init
+check_all-loop-expr-init t c = grind (arith, common_steps)
+
+pub check_all-returns : goal.check_all-returns
+check_all-returns t c = grind (arith, common_steps)

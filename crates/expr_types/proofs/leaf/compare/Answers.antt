@@ -1,4 +1,5 @@
-use Rattle.std.proofs.Common.{◌≡◌, ◌∷◌, ◌++◌, true, false, ap, sym}
+use Rattle.std.proofs.lemmas.Grind.{common_steps}
+use Rattle.std.proofs.Common.{◌≡◌, ◌∷◌, ◌++◌, true, false, ap, sym, arith}
 use Rattle.bt_core.specs.declared.map.Shape.TheVariants.{Int, Str}
 use Rattle.typed_tree.specs.Parts.{made, made_of, str_parts, Joined, compared}
 use Rattle.bt_core.specs.declared.operator.BinOp.{BinOp}
@@ -24,3 +25,6 @@ returns-in-Ne-clause-made c = made_is (made Int (Joined (compared false) ∷ (st
 
 pub returns-in_default-clause-made : goal.returns-in_default-clause-made
 returns-in_default-clause-made c = nothing_made (λ e. made_of e ≡ made Int (Joined c.args.op ∷ (str_parts c.args.left ++ str_parts c.args.right))) _ c.refused.result c.refused.ensures
+
+pub returns-in_default-clause-refuses : goal.returns-in_default-clause-refuses
+returns-in_default-clause-refuses c = grind (arith, common_steps)

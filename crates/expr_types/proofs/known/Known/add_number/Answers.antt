@@ -1,6 +1,12 @@
-use Rattle.expr_types.proofs.Learning.{number_learned}
+use Rattle.std.proofs.Common.{arith}
+use Rattle.std.proofs.lemmas.Grind.{common_steps}
 use Rattle.expr_types.proofs.known.Known.add_number.Goals as goal
 
-pub returns-in_ok-push-clause-learned : goal.returns-in_ok-push-clause-learned
-returns-in_ok-push-clause-learned c =
-    number_learned c.args.self.now c.args.number c.as_slice.result.now c.push.new.self c.if-not-has_number.ensures c.as_slice.ensures c.in_ok-push.ensures.ok
+pub returns-then-has_number-clause-learned : goal.returns-then-has_number-clause-learned
+returns-then-has_number-clause-learned c = grind (arith, common_steps)
+
+pub returns-clause-learned : goal.returns-clause-learned
+returns-clause-learned c = grind (arith, common_steps)
+
+pub returns-clause-here : goal.returns-clause-here
+returns-clause-here c = grind (arith, common_steps)

@@ -1,6 +1,9 @@
-use Rattle.expr_types.proofs.Learning.{mention_learned}
+use Rattle.std.proofs.Common.{arith}
+use Rattle.std.proofs.lemmas.Grind.{common_steps}
 use Rattle.expr_types.proofs.known.Known.mention.Goals as goal
 
-pub returns-in_ok-push : goal.returns-in_ok-push
-returns-in_ok-push c =
-    mention_learned c.args.self.now c.args.name.now c.as_slice.result.now c.in_ok-try_copy.field-0 c.push.new.self c.if-not-is_mentioned.ensures c.as_slice.ensures c.in_ok-try_copy.ensures c.in_ok-push.ensures.ok
+pub returns : goal.returns
+returns c = grind (arith, common_steps)
+
+pub returns-then-is_mentioned : goal.returns-then-is_mentioned
+returns-then-is_mentioned c = grind (arith, common_steps)
