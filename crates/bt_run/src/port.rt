@@ -105,24 +105,14 @@ fn make_step(alloc: Global, run: &mut Running, object: ObjectId, op: Op) -> Resu
     ensures replied { OnOk result (IsReplyOf run.old.maps.value object op (last_reply (steps_in run.new.steps))) }
     ensures none { OnErr result (steps_in run.new.steps ≡ steps_in run.old.steps) }
 {
-    if let Err(want) = run.steps.reserve(alloc) {
-        drop(op);
-        return Err(want);
-    }
+    run.steps.reserve(alloc)?;
     let actor = run.turn.actor;
     let clock = run.lasts[actor as usize].max(run.turn.floor);
-    match take_at(alloc, &mut run.objects, object, &op, clock) {
-        Ok((reply, stamp)) => {
-            run.lasts[actor as usize] = stamp;
-            run.top = run.top.max(stamp);
-            run.steps.push_reserved(actor, object, stamp, op, reply);
-            Ok(())
-        }
-        Err(want) => {
-            drop(op);
-            Err(want)
-        }
-    }
+    let (reply, stamp) = take_at(alloc, &mut run.objects, object, &op, clock)?;
+    run.lasts[actor as usize] = stamp;
+    run.top = run.top.max(stamp);
+    run.steps.push_reserved(actor, object, stamp, op, reply);
+    Ok(())
 }
 
 /// The reply of the last step.

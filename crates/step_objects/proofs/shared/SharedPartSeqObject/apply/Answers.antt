@@ -4,7 +4,7 @@ use Rattle.step_objects.specs.Tables.{Stands}
 use Rattle.step_objects.proofs.BackLaws.{back-more}
 use Rattle.step_objects.proofs.shared.SharedPartSeqObject.apply.Goals as goal
 
-pub returns-in-Ok-clause-taken : goal.returns-in-Ok-clause-taken
-returns-in-Ok-clause-taken c before s =
+pub returns-clause-taken : goal.returns-clause-taken
+returns-clause-taken c before s =
     subst (Stands (last_given c.args.self.now.of.decl.kind) c.change.new.table) (sym (back-more shared_change before c.args.op.now))
-    (c.in-Ok.ensures.taken (back shared_change before) s)
+    (c.in_ok-change.ensures.taken (back shared_change before) s)
