@@ -44,11 +44,11 @@ def has_kept_work():
     return any((CRATES / name / "out" / "incremental").is_dir() for name in needed())
 
 
-def run_proofs(words, folder, is_proved, log):
-    """Runs a command of the toolchain in a folder, tells at each line that says that a crate is proved how many are, and gives its status. What it
-    says goes to the log."""
+def run_proofs(words, folder, is_proved, log, **more):
+    """Runs a command of the toolchain in a folder, with more words of the environment, tells at each line that says that a crate is proved how many
+    are, and gives its status. What it says goes to the log."""
     count, proved = len(needed()), 0
-    with subprocess.Popen(words, cwd=folder, stdin=subprocess.DEVNULL, stdout=subprocess.PIPE, stderr=subprocess.STDOUT) as proofs:
+    with subprocess.Popen(words, cwd=folder, env={**os.environ, **more}, stdin=subprocess.DEVNULL, stdout=subprocess.PIPE, stderr=subprocess.STDOUT) as proofs:
         try:
             for line in proofs.stdout:
                 log.write(line)
@@ -104,12 +104,14 @@ def build_from_nothing(log):
     """Proves the crates of the program from nothing and builds it, as the gate does, in a folder of its own that is removed. Says whether it is proved.
 
     So the crates above read of those below what they state and not how it was proved, the longest chain comes first, and no look over all sources
-    comes before: it takes less of the processors, and less memory, than a check over nothing kept."""
+    comes before: it takes less of the processors, and less memory, than a check over nothing kept. Each crate is proved by one process, as many
+    crates at a time as there is room for: several processes for one crate take a third more of the processors."""
     with room_to_prove() as folder:
         if is_current():
             return True
         copy_sources(folder)
-        status = run_proofs(["rt", "ci"], folder, lambda line: line.startswith(b"rt: ") and line.endswith(b" proved\n") and line.count(b" ") == 2, log)
+        status = run_proofs(["rt", "ci"], folder, lambda line: line.startswith(b"rt: ") and line.endswith(b" proved\n") and line.count(b" ") == 2, log,
+                            RT_JOBS=str(jobs()))
         made = folder / "crates" / CRATE.name / "out" / PROGRAM.name
         if status != 0 or not os.access(made, os.X_OK):
             return False

@@ -43,7 +43,7 @@ try)
 ci)
     echo "$PWD" >>"$STAND_IN/builds"
     [ -z "$STAND_IN_SLOW" ] || exec sleep 60
-    find . -type f | sort >"$STAND_IN/given" && cat crates.txt HANDLES >>"$STAND_IN/given"
+    find . -type f | sort >"$STAND_IN/given" && cat crates.txt HANDLES >>"$STAND_IN/given" && echo "$RT_JOBS" >"$STAND_IN/lanes"
     printf '%s\\n' "== bt_core" "logic=proved functions=1" "rt: bt_core proved"
     [ -z "$STAND_IN_FAILS" ] || { printf '%s\\n' "error: $STAND_IN_FAILS" "rt: bt_program NOT PROVED" "1 passed, 1 failed"; exit 1; }
     mkdir -p crates/bt_program/out && cp "$STAND_IN/lib/bt_program" crates/bt_program/out/bt_program || exit 3

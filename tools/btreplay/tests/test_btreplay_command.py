@@ -352,6 +352,7 @@ class Builds(unittest.TestCase):
         self.assertEqual((self.at.folder / "given").read_text().splitlines(), [
             "./HANDLES", "./crates.txt", "./crates/bt_core/specs/out/Word.antt", "./crates/bt_core/src/main.rt", "./crates/bt_program/src/main.rt",
             "bt_core: thiserror", "bt_program: bt_core", "Handles allowed: none."])
+        self.assertIn(int((self.at.folder / "lanes").read_text()), range(1, len(os.sched_getaffinity(0)) + 1))
         self.assertEqual([path.name for path in (self.at.folder / "cache" / "btreplay").iterdir()], ["proving"])
         for folder in (self.at.folder / "builds").read_text().splitlines():
             self.assertEqual(os.path.dirname(folder), str(self.at.folder / "cache" / "btreplay"))
