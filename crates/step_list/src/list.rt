@@ -195,10 +195,14 @@ fn reserve_one(
     ensures places { places.new.items ≡ places.old.items }
     ensures keys { keys.new.items ≡ keys.old.items }
     ensures whole { whole.new.items ≡ whole.old.items }
-    ensures room { OnOk result ((vec_len places.new < vec_capacity places.new) × (vec_len keys.new < vec_capacity keys.new) × (vec_len whole.new < vec_capacity whole.new)) }
-    ensures kept { (vec_len places.old < vec_capacity places.old) × (vec_len keys.old < vec_capacity keys.old) × (vec_len whole.old < vec_capacity whole.old)
-        → (vec_len places.new < vec_capacity places.new) × (vec_len keys.new < vec_capacity keys.new) × (vec_len whole.new < vec_capacity whole.new) }
-    ensures free { (vec_len places.old < vec_capacity places.old) × (vec_len keys.old < vec_capacity keys.old) × (vec_len whole.old < vec_capacity whole.old) → IsOk result }
+    ensures room { OnOk result ((vec_len places.new < vec_capacity places.new)
+        × (vec_len keys.new < vec_capacity keys.new) × (vec_len whole.new < vec_capacity whole.new)) }
+    ensures kept { (vec_len places.old < vec_capacity places.old)
+        × (vec_len keys.old < vec_capacity keys.old) × (vec_len whole.old < vec_capacity whole.old)
+        → (vec_len places.new < vec_capacity places.new)
+        × (vec_len keys.new < vec_capacity keys.new) × (vec_len whole.new < vec_capacity whole.new) }
+    ensures free { (vec_len places.old < vec_capacity places.old)
+        × (vec_len keys.old < vec_capacity keys.old) × (vec_len whole.old < vec_capacity whole.old) → IsOk result }
 {
     places.reserve(1)?;
     keys.reserve(1)?;
