@@ -15,6 +15,7 @@ use bt_core::memory::Memory;
 use bt_core::step::{ObjectId, Op, Reply, Step};
 use print_list::list::PrintList;
 use std::alloc::Global;
+use std::mem;
 
 /// A step, in 24 bytes: its stamp, and what it did.
 #[derive(Clone, Copy)]
@@ -161,12 +162,15 @@ impl StepList {
         )
     }
 
-    /// Adds a step behind all others. There is room for it.
-    pub fn push_reserved(&mut self, actor: u32, object: ObjectId, stamp: u64, op: Op, reply: Reply)
+    /// Adds a step behind all others. There is room for it. What has to be kept of the operation and of the reply is taken out of them, so
+    /// nothing is said of what they are then.
+    pub fn push_reserved(&mut self, actor: u32, object: ObjectId, stamp: u64, op: &mut Op, reply: &mut Reply)
         requires room { HasPlace self.old }
-        ensures steps { steps_in self.new ≡ steps_in self.old ++ step_of actor stamp object op reply ∷ [] }
+        ensures steps { steps_in self.new ≡ steps_in self.old ++ step_of actor stamp object op.old reply.old ∷ [] }
     {
-        reply_is_held(&reply);
+        reply_is_held(reply);
+        let op = mem::replace(op, Op::Stop);
+        let reply = mem::replace(reply, Reply::Done);
         let mark = keep(
             &mut self.keys,
             &mut self.slots,
