@@ -15,7 +15,6 @@ use bt_core::memory::Memory;
 use bt_core::step::{ObjectId, Op, Reply, Step};
 use print_list::list::PrintList;
 use std::alloc::Global;
-use std::mem;
 
 /// A step, in 24 bytes: its stamp, and what it did.
 #[derive(Clone, Copy)]
@@ -169,19 +168,15 @@ impl StepList {
         ensures steps { steps_in self.new ≡ steps_in self.old ++ step_of actor stamp object op.old reply.old ∷ [] }
     {
         reply_is_held(reply);
-        let op = mem::replace(op, Op::Stop);
-        let reply = mem::replace(reply, Reply::Done);
         let mark = keep(
             &mut self.keys,
             &mut self.slots,
             &mut self.whole,
             &mut self.prints,
-            Deed {
-                actor,
-                object,
-                op,
-                reply,
-            },
+            actor,
+            object,
+            op,
+            reply,
         );
         note_last(&mut self.last, &mark);
         self.places.push_reserved(Place { stamp, mark });

@@ -2,7 +2,7 @@
 ghost use Rattle.std.specs.Prelude.{◌≡◌, ℕ, ◌<◌, IsTrue, List, [], get_or, length, vec_len, vec_capacity, IfOk, IfSome};
 ghost use Rattle.bt_core.specs.declared.item.Item.{Item as Sent};
 ghost use Rattle.bt_core.specs.declared.value.Value.{Value as Part};
-ghost use Rattle.step_list.specs.Deeds.{deed_of, emitted, is_within, no_item, Extends};
+ghost use Rattle.step_list.specs.Deeds.{deed, deed_of, emitted, is_within, no_item, Extends};
 
 use crate::deed::{Deed, Mark, actor_of, object_of, reply_of};
 use crate::keys::{keep_key, key_at};
@@ -14,6 +14,7 @@ use bt_core::step::{ObjectId, Op, Reply};
 use bt_core::value::Value;
 use print_list::list::PrintList;
 use std::alloc::Global;
+use std::mem;
 
 /// A copy of the deed that a mark tells, by the keys, the deeds that are kept whole and the printed items. [`Memory`] where there is no
 /// room for it.
@@ -79,8 +80,37 @@ pub(crate) fn print_at(alloc: Global, prints: &PrintList, print: u32) -> Result<
     }
 }
 
-/// Keeps what a step did, and tells the mark by which it is found. There is room for a key and for a deed.
+/// Keeps what a step did, and tells the mark by which it is found. There is room for a key and for a deed. What is kept of the operation
+/// and of the reply is taken out of them.
 pub(crate) fn keep(
+    keys: &mut Vec<Key>,
+    slots: &mut Vec<u32>,
+    whole: &mut Vec<Deed>,
+    prints: &mut PrintList,
+    actor: u32,
+    object: ObjectId,
+    op: &mut Op,
+    reply: &mut Reply,
+) -> Mark
+    requires keys { vec_len keys.old < vec_capacity keys.old }
+    requires whole { vec_len whole.old < vec_capacity whole.old }
+    ensures keys { Extends keys.old.items keys.new.items }
+    ensures whole { Extends whole.old.items whole.new.items }
+    ensures prints { Extends prints.old prints.new }
+    ensures within { IsTrue (is_within (length keys.new.items) (length whole.new.items) (length prints.new) result) }
+    ensures deed { deed_of keys.new.items whole.new.items prints.new result ≡ deed actor object op.old reply.old }
+{
+    let deed = Deed {
+        actor,
+        object,
+        op: mem::replace(op, Op::Stop),
+        reply: mem::replace(reply, Reply::Done),
+    };
+    keep_deed(keys, slots, whole, prints, deed)
+}
+
+/// Keeps a deed, and tells the mark by which it is found. There is room for a key and for a deed.
+fn keep_deed(
     keys: &mut Vec<Key>,
     slots: &mut Vec<u32>,
     whole: &mut Vec<Deed>,

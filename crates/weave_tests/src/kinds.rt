@@ -133,10 +133,10 @@ fn list_of(alloc: Global, rows: &[usize]) -> Result<StepList, Memory> {
     let mut list = StepList::new(alloc);
     for row in rows {
         let (actor, object, stamp) = PLACES[*row % ROWS];
-        let op = op(alloc, *row)?;
-        let reply = reply(alloc, *row)?;
+        let mut op = op(alloc, *row)?;
+        let mut reply = reply(alloc, *row)?;
         list.reserve(alloc)?;
-        list.push_reserved(actor, object, stamp, op, reply);
+        list.push_reserved(actor, object, stamp, &mut op, &mut reply);
     }
     Ok(list)
 }

@@ -1,5 +1,5 @@
 use Rattle.std.proofs.Common.{[], append-nil, length, sym}
-use Rattle.step_list.proofs.marking.keep.Goals as goal
+use Rattle.step_list.proofs.marking.keep_deed.Goals as goal
 
 pub keep_whole-requires : goal.keep_whole-requires
 keep_whole-requires c = record { whole = c.requires.whole }
