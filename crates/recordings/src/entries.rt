@@ -114,6 +114,7 @@ impl Entries {
     }
 
     /// The entry at a place, counted from 0, or `None` past the last. It takes no memory.
+    #[inline(always)]
     pub fn get(&self, place: usize) -> Option<EntryRef<'_>>
         ensures { option_map entry_seen result ≡ slice_get self.now place }
     {
@@ -125,6 +126,7 @@ impl Entries {
 }
 
 /// The entry at a place of a file's bytes, or a mark of nothing where none lies there.
+#[inline(always)]
 fn entry_in(file: &[u8], place: EntryPlace) -> EntryRef<'_>
     ensures { entry_seen result ≡ entry_in file.now place }
 {
@@ -135,6 +137,7 @@ fn entry_in(file: &[u8], place: EntryPlace) -> EntryRef<'_>
 }
 
 /// What lies from a byte of the file on.
+#[inline(always)]
 fn from_byte(file: &[u8], at: u32) -> &[u8]
     ensures { result.now ≡ drop at file.now }
 {
@@ -143,6 +146,7 @@ fn from_byte(file: &[u8], at: u32) -> &[u8]
 }
 
 /// The event from a byte of the file on.
+#[inline(always)]
 fn event_in(file: &[u8], at: u32, format: u32) -> EntryRef<'_>
     ensures { entry_seen result ≡ event_taken format (event_at (drop at file.now)) }
 {
@@ -153,6 +157,7 @@ fn event_in(file: &[u8], at: u32, format: u32) -> EntryRef<'_>
 }
 
 /// An event, with the place of its format.
+#[inline(always)]
 fn with_format(event: EventBytes<'_>, format: u32) -> EventRef<'_>
     ensures { event_seen result ≡ event_of (event_part event.entry) format }
 {

@@ -18,6 +18,7 @@ pub fn bytes_at(bytes: &[u8], count: usize) -> Option<(&[u8], &[u8])>
 }
 
 /// A number of 32 bits, and the bytes after it.
+#[inline(always)]
 pub fn u32_at(bytes: &[u8]) -> Option<(u32, &[u8])>
     ensures { option_map (λ field. (field.0, field.1.now)) result ≡ number_at w32 bytes.now }
 {
@@ -28,6 +29,7 @@ pub fn u32_at(bytes: &[u8]) -> Option<(u32, &[u8])>
 }
 
 /// A number of 64 bits, and the bytes after it.
+#[inline(always)]
 pub fn u64_at(bytes: &[u8]) -> Option<(u64, &[u8])>
     ensures { option_map (λ field. (field.0, field.1.now)) result ≡ number_at w64 bytes.now }
 {
@@ -39,6 +41,7 @@ pub fn u64_at(bytes: &[u8]) -> Option<(u64, &[u8])>
 
 /// Bytes behind their length of 32 bits, and those after them.
 #[tactic(auto, unfolding(crate::specs::Fronts::sized_at))]
+#[inline(always)]
 pub fn sized32_at(bytes: &[u8]) -> Option<(&[u8], &[u8])>
     ensures { option_map (λ piece. (piece.0.now, piece.1.now)) result ≡ sized_at w32 bytes.now }
 {

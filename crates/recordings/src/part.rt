@@ -41,6 +41,7 @@ pub enum EntryBytes<'b> {
 }
 
 /// Sixteen bytes, and what follows them.
+#[inline(always)]
 fn comm_at(bytes: &[u8]) -> Option<([u8; 16], &[u8])>
     ensures { option_map (λ part. (part.0, part.1.now)) result ≡ bytes_at 16 bytes.now }
 {
@@ -54,6 +55,7 @@ fn comm_at(bytes: &[u8]) -> Option<([u8; 16], &[u8])>
 
 /// An event, and what follows it.
 #[tactic(auto, unfolding(crate::specs::Fronts::event_at))]
+#[inline(always)]
 pub fn event_at(bytes: &[u8]) -> Option<(EventBytes<'_>, &[u8])>
     ensures { option_map (λ part. (event_part part.0, part.1.now)) result ≡ event_at bytes.now }
 {
