@@ -10,6 +10,7 @@ ghost use Rattle.rec_format.specs.Answers.{Answers, IsPlaced, IsPartPlaced};
 
 use crate::number::u16_at;
 use crate::part::entry_at;
+use crate::sections::EVENT_BYTES;
 use crate::table::FormatTable;
 use bt_core::memory::{Memory, fitting};
 use recordings::entries::EntryPlace;
@@ -105,6 +106,12 @@ fn check_entry(
     }
 }
 
+/// For how many entries room is made at once: for so many, but for no more than the bytes can hold events. Marks take fewer bytes; for
+/// more of them the room grows.
+fn room_for(count: u32, bytes: &[u8]) -> usize {
+    (count as usize).min(bytes.len() / EVENT_BYTES as usize)
+}
+
 /// So many entries of the CPU at a place, and what follows them.
 pub(crate) fn read_entries<'b>(
     alloc: Global,
@@ -119,7 +126,7 @@ pub(crate) fn read_entries<'b>(
         (entries_in setting.now.file.now read.0.items) read.1.now)
         (EntryFails (entries setting.now.marks) (length setting.now.file.now) setting.now.formats.now setting.now.start setting.now.end cpu count bytes.now) }
 {
-    let mut places = Vec::new(alloc);
+    let mut places = Vec::with_capacity(alloc, room_for(count, bytes))?;
     let mut rest = bytes;
     let mut earliest = setting.start;
     for place in 0..count {

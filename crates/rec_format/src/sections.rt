@@ -23,7 +23,7 @@ const HEAD_BYTES: u64 = 8;
 const COUNT_AT: u64 = 4;
 
 /// Bytes of an event before its payload, and where the length of that is told.
-const EVENT_BYTES: u64 = 44;
+pub(crate) const EVENT_BYTES: u64 = 44;
 
 const LENGTH_AT: u64 = 40;
 
