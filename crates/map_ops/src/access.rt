@@ -28,9 +28,7 @@ pub fn part(map: MapId, key: &Key) -> ObjectId
 }
 
 /// Makes a step whose reply says nothing. What the step has to keep of the operation is taken out of it, so nothing is said of the
-/// operation behind it.
-///
-/// After [`Memory`] no step was made.
+/// operation behind it. [`Memory`] where there is no room for the step.
 #[tactic(auto, using(bt_core::proofs::InteractionLaws::composing))]
 pub fn tell<P: Port>(
     alloc: Global,
