@@ -94,24 +94,26 @@ impl Model for SerialPort {
     ghost invariant = { λ p. IsRun p.run };
 }
 
-/// One step of the actor whose turn it is.
-fn make_step(alloc: Global, run: &mut Running, object: ObjectId, op: Op) -> Result<(), Memory>
+/// One step of the actor whose turn it is. What the step has to keep of the operation is taken out of it. After [`Memory`] no step was made,
+/// and the operation is as it was.
+fn make_step(alloc: Global, run: &mut Running, object: ObjectId, op: &mut Op) -> Result<(), Memory>
     requires run { IsRunning run.old }
-    requires can { CanStep (setting_of (seen_of run.old)) object op }
+    requires can { CanStep (setting_of (seen_of run.old)) object op.old }
     ensures run { IsRunning run.new }
     ensures world { world_of run.new ≡ world_of run.old }
     ensures turn { run.new.turn ≡ run.old.turn }
-    ensures made { OnOk result (MakesStep (steps_in run.old.steps) (steps_in run.new.steps) run.old.turn.actor object op) }
-    ensures replied { OnOk result (IsReplyOf run.old.maps.value object op (last_reply (steps_in run.new.steps))) }
+    ensures made { OnOk result (MakesStep (steps_in run.old.steps) (steps_in run.new.steps) run.old.turn.actor object op.old) }
+    ensures replied { OnOk result (IsReplyOf run.old.maps.value object op.old (last_reply (steps_in run.new.steps))) }
     ensures none { OnErr result (steps_in run.new.steps ≡ steps_in run.old.steps) }
+    ensures whole { OnErr result (op.new ≡ op.old) }
 {
     run.steps.reserve(alloc)?;
     let actor = run.turn.actor;
     let clock = run.lasts[actor as usize].max(run.turn.floor);
-    let (reply, stamp) = take_at(alloc, &mut run.objects, object, &op, clock)?;
+    let (mut reply, stamp) = take_at(alloc, &mut run.objects, object, &*op, clock)?;
     run.lasts[actor as usize] = stamp;
     run.top = run.top.max(stamp);
-    run.steps.push_reserved(actor, object, stamp, op, reply);
+    run.steps.push_reserved(actor, object, stamp, op, &mut reply);
     Ok(())
 }
 
@@ -130,7 +132,7 @@ impl Port for SerialPort {
 
     ghost fixed = { λ p. record { setting = setting_of p; home = p.turn } };
 
-    fn step(&mut self, alloc: Global, object: ObjectId, op: Op) -> Result<(), Memory> {
+    fn step(&mut self, alloc: Global, object: ObjectId, op: &mut Op) -> Result<(), Memory> {
         make_step(alloc, &mut self.run, object, op)
     }
 

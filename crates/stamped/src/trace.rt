@@ -115,13 +115,14 @@ impl Trace {
         steps
     }
 
-    // Adds a step with this stamp, to which the clock then goes. There is room for it.
-    pub(crate) fn store(&mut self, object: ObjectId, stamp: u64, op: Op, reply: Reply)
+    // Adds a step with this stamp, to which the clock then goes. There is room for it. What has to be kept of the operation and of the
+    // reply is taken out of them, so nothing is said of what they are then.
+    pub(crate) fn store(&mut self, object: ObjectId, stamp: u64, op: &mut Op, reply: &mut Reply)
         requires room { HasRoom self.old }
         requires above { clock_of self.old < stamp }
         ensures actor { actor_of self.new ≡ actor_of self.old }
         ensures clock { clock_of self.new ≡ stamp }
-        ensures steps { steps_of self.new ≡ steps_of self.old ++ step_by (actor_of self.old) object stamp op reply ∷ [] }
+        ensures steps { steps_of self.new ≡ steps_of self.old ++ step_by (actor_of self.old) object stamp op.old reply.old ∷ [] }
         ensures floors { floors_of self.new ≡ floors_of self.old ++ clock_of self.old ∷ [] }
     {
         note(&mut self.raised, self.steps.len(), self.stood, self.clock);

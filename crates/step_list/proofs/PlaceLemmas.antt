@@ -180,8 +180,9 @@ pub none_told : (ks : List (List Value)) (ws : List Deed) (ts : List Item) (m : 
 none_told ks ws ts m k e past = sym (ap (deed_of ks ws ts) e ∙ get_or_past ws k no_deed (ltb-false k (length ws) (sym past)))
 
 -- what was printed is the last of the printed items
-pub print_kept : (d : Deed) (ts news : List Item) (n : ℕ) (item : Item) → d.object ≡ Out → d.op ≡ Emit item → d.reply ≡ Done → n ≡ length ts → news ≡ ts ++ item ∷ [] → (n < length news) × (d ≡ emitted d.actor (get_or news n no_item))
-print_kept d ts news n item e f g long grew =
+pub print_kept : (op : Op) (reply : Reply) (ts news : List Item) (n : ℕ) (item : Item) → op ≡ Emit item → reply ≡ Done → n ≡ length ts → news ≡ ts ++ item ∷ []
+    → (n < length news) × ((actor : ℕ) → deed actor Out op reply ≡ emitted actor (get_or news n no_item))
+print_kept op reply ts news n item f g long grew =
     let last : get_or news n no_item ≡ item = ap (λ (l : List Item). get_or l n no_item) grew ∙ get_or_push ts item no_item n (sym long) in
     let more : length news ≡ length ts + 1 = ap length grew ∙ length_push ts item in
-    (omega (arith, more, long), λ i. deed d.actor (e i) ((f ∙ ap Emit (sym last)) i) (g i))
+    (omega (arith, more, long), λ actor i. deed actor Out ((f ∙ ap Emit (sym last)) i) (g i))

@@ -1,14 +1,13 @@
 // Keys, each kept once where their hashes are apart.
-ghost use Rattle.std.specs.Prelude.{◌≡◌, ◌<◌, IsTrue, [], length, get_or, vec_len, vec_capacity, IfOk};
+ghost use Rattle.std.specs.Prelude.{◌≡◌, ◌<◌, ◌∷◌, ◌++◌, IsTrue, [], length, get_or, vec_len, vec_capacity, IfOk};
 ghost use Rattle.step_list.specs.Deeds.{Extends};
 
 use bt_core::key::Key;
 use bt_core::memory::{Memory, TryCopy};
-use bt_core::order::{compare_keys, keys_are_ordered};
 use bt_core::value::Value;
 use byteorder::{ByteOrder, LittleEndian};
 use std::alloc::Global;
-use std::cmp::Ordering;
+use std::mem;
 
 /// The least number of slots.
 const SLOTS: usize = 64;
@@ -26,43 +25,49 @@ pub(crate) fn key_at(alloc: Global, keys: &[Key], number: u32) -> Result<Key, Me
     }
 }
 
-/// Keeps a key, which is one of the keys already or is put behind them, and tells its number. There is room for it.
+/// Keeps a key, which is one of the keys already or is put behind them, and tells its number. There is room for it. It is taken out where it
+/// is put behind them, and stays where it lies otherwise.
 ///
 /// The slot of the key's hash names the number of a key, which is compared, so that any numbers may stand in the slots. Where the slot
 /// names another key, this one is put behind all keys, though it may be among them, and the slot names it from then on.
-pub(crate) fn keep_key(keys: &mut Vec<Key>, slots: &mut Vec<u32>, key: Key) -> u32
+pub(crate) fn keep_key(keys: &mut Vec<Key>, slots: &mut Vec<u32>, key: &mut Key) -> u32
     requires room { vec_len keys.old < vec_capacity keys.old }
     requires few { length keys.old.items < 0xffffffff }
     ensures kept { Extends keys.old.items keys.new.items }
     ensures within { result < length keys.new.items }
-    ensures key { get_or keys.new.items result [] ≡ key }
+    ensures key { get_or keys.new.items result [] ≡ key.old }
 {
-    let slot = slot_of(&key, slots.len());
+    let slot = slot_of(key, slots.len());
     if let Some(number) = slots.get(slot) {
         let number = *number;
         if let Some(old) = keys.get(number as usize) {
-            if is_same(old, &key) {
+            if is_same(old, key) {
                 return number;
             }
         }
     }
     let number = keys.len() as u32;
-    keys.push_reserved(key);
+    put_key(keys, key);
     if slot < slots.len() {
         slots[slot] = number;
     }
     number
 }
 
+/// Takes a key out and puts it behind all keys. There is room for it.
+fn put_key(keys: &mut Vec<Key>, key: &mut Key)
+    requires { vec_len keys.old < vec_capacity keys.old }
+    ensures { keys.new.items ≡ keys.old.items ++ key.old ∷ [] }
+{
+    let kept = mem::replace(key, Key::one(Value::Int(0)));
+    keys.push_reserved(kept);
+}
+
 /// Whether two keys are one.
 fn is_same(one: &Key, other: &Key) -> bool
     ensures { IsTrue result → one.now ≡ other.now }
 {
-    keys_are_ordered();
-    match compare_keys(one, other) {
-        Ordering::Equal => true,
-        Ordering::Less | Ordering::Greater => false,
-    }
+    one == other
 }
 
 /// Slots for these keys and as many more, each with the number of the last key whose hash is the slot's, or 0.

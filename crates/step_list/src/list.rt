@@ -163,7 +163,14 @@ impl StepList {
 
     /// Adds a step behind all others. There is room for it. What has to be kept of the operation and of the reply is taken out of them, so
     /// nothing is said of what they are then.
-    pub fn push_reserved(&mut self, actor: u32, object: ObjectId, stamp: u64, op: &mut Op, reply: &mut Reply)
+    pub fn push_reserved(
+        &mut self,
+        actor: u32,
+        object: ObjectId,
+        stamp: u64,
+        op: &mut Op,
+        reply: &mut Reply,
+    )
         requires room { HasPlace self.old }
         ensures steps { steps_in self.new ≡ steps_in self.old ++ step_of actor stamp object op.old reply.old ∷ [] }
     {

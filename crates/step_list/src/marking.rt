@@ -1,8 +1,9 @@
 // Marks of deeds, and deeds of marks.
 ghost use Rattle.std.specs.Prelude.{◌≡◌, ℕ, ◌<◌, IsTrue, List, [], get_or, length, vec_len, vec_capacity, IfOk, IfSome};
 ghost use Rattle.bt_core.specs.declared.item.Item.{Item as Sent};
+ghost use Rattle.bt_core.specs.declared.step.ObjectId.TheVariants.{Shared, Cpu, Clock, Out};
 ghost use Rattle.bt_core.specs.declared.value.Value.{Value as Part};
-ghost use Rattle.step_list.specs.Deeds.{deed, deed_of, emitted, is_within, no_item, Extends};
+ghost use Rattle.step_list.specs.Deeds.{deed, deed_of, emitted, is_within, key_of, no_item, Extends, HasKey};
 
 use crate::deed::{Deed, Mark, actor_of, object_of, reply_of};
 use crate::keys::{keep_key, key_at};
@@ -100,182 +101,168 @@ pub(crate) fn keep(
     ensures within { IsTrue (is_within (length keys.new.items) (length whole.new.items) (length prints.new) result) }
     ensures deed { deed_of keys.new.items whole.new.items prints.new result ≡ deed actor object op.old reply.old }
 {
-    let deed = Deed {
-        actor,
-        object,
-        op: mem::replace(op, Op::Stop),
-        reply: mem::replace(reply, Reply::Done),
-    };
-    keep_deed(keys, slots, whole, prints, deed)
-}
-
-/// Keeps a deed, and tells the mark by which it is found. There is room for a key and for a deed.
-fn keep_deed(
-    keys: &mut Vec<Key>,
-    slots: &mut Vec<u32>,
-    whole: &mut Vec<Deed>,
-    prints: &mut PrintList,
-    deed: Deed,
-) -> Mark
-    requires keys { vec_len keys.old < vec_capacity keys.old }
-    requires whole { vec_len whole.old < vec_capacity whole.old }
-    ensures keys { Extends keys.old.items keys.new.items }
-    ensures whole { Extends whole.old.items whole.new.items }
-    ensures prints { Extends prints.old prints.new }
-    ensures within { IsTrue (is_within (length keys.new.items) (length whole.new.items) (length prints.new) result) }
-    ensures deed { deed_of keys.new.items whole.new.items prints.new result ≡ deed }
-{
-    if keys.len() >= 0xffff_ffff || deed.actor >= 256 {
-        return keep_whole(whole, deed);
+    if keys.len() >= 0xffff_ffff || actor >= 256 {
+        return keep_whole(whole, actor, object, op, reply);
     }
-    match deed.object {
-        ObjectId::Shared { .. } => keep_shared(keys, slots, whole, deed),
-        ObjectId::Cpu(_) => keep_add(keys, slots, whole, deed),
-        ObjectId::Clock => keep_check(whole, deed),
-        ObjectId::Out => keep_emit(whole, prints, deed),
+    match object {
+        ObjectId::Shared { map, part } => keep_shared(
+            keys, slots, whole, actor, map, part, op, reply,
+        ),
+        ObjectId::Cpu(owner) => keep_add(keys, slots, whole, actor, owner, op, reply),
+        ObjectId::Clock => keep_check(whole, actor, op, reply),
+        ObjectId::Out => keep_emit(whole, prints, actor, op, reply),
     }
 }
 
 /// Keeps what a step did at a part of a shared map.
-fn keep_shared(keys: &mut Vec<Key>, slots: &mut Vec<u32>, whole: &mut Vec<Deed>, deed: Deed) -> Mark
+fn keep_shared(
+    keys: &mut Vec<Key>,
+    slots: &mut Vec<u32>,
+    whole: &mut Vec<Deed>,
+    actor: u32,
+    map: MapId,
+    part: u32,
+    op: &mut Op,
+    reply: &mut Reply,
+) -> Mark
     requires few { length keys.old.items < 0xffffffff }
-    requires actor { deed.actor < 256 }
+    requires actor { actor < 256 }
     requires keys { vec_len keys.old < vec_capacity keys.old }
     requires whole { vec_len whole.old < vec_capacity whole.old }
     ensures keys { Extends keys.old.items keys.new.items }
     ensures whole { Extends whole.old.items whole.new.items }
     ensures within { (prints : ℕ) → IsTrue (is_within (length keys.new.items) (length whole.new.items) prints result) }
-    ensures deed { (prints : List Sent) → deed_of keys.new.items whole.new.items prints result ≡ deed }
+    ensures deed { (prints : List Sent) → deed_of keys.new.items whole.new.items prints result ≡ deed actor (Shared map part) op.old reply.old }
 {
-    let actor = deed.actor;
-    match (deed.object, deed.op, deed.reply) {
-        (ObjectId::Shared { map, part }, Op::Get(key), Reply::Value(Value::Int(number)))
-            if map.0 < 256 && part < 256 => Mark::GetInt {
+    if map.0 >= 256 || part >= 256 {
+        return keep_whole(whole, actor, ObjectId::Shared { map, part }, op, reply);
+    }
+    match (&*op, &*reply) {
+        (Op::Get(_), Reply::Value(Value::Int(number))) => Mark::GetInt {
             actor: actor as u8,
             map: map.0 as u8,
             part: part as u8,
-            key: keep_key(keys, slots, key),
-            number,
+            number: *number,
+            key: keep_key_of(keys, slots, op),
         },
-        (ObjectId::Shared { map, part }, Op::Set(key, Value::Int(number)), Reply::Done)
-            if map.0 < 256 && part < 256 => Mark::SetInt {
+        (Op::Set(_, Value::Int(number)), Reply::Done) => Mark::SetInt {
             actor: actor as u8,
             map: map.0 as u8,
             part: part as u8,
-            key: keep_key(keys, slots, key),
-            number,
+            number: *number,
+            key: keep_key_of(keys, slots, op),
         },
-        (ObjectId::Shared { map, part }, Op::Delete(key), Reply::Done)
-            if map.0 < 256 && part < 256 => Mark::Delete {
+        (Op::Delete(_), Reply::Done) => Mark::Delete {
             actor: actor as u8,
             map: map.0 as u8,
             part: part as u8,
-            key: keep_key(keys, slots, key),
+            key: keep_key_of(keys, slots, op),
         },
-        (object, op, reply) => keep_whole(
-            whole,
-            Deed {
-                actor,
-                object,
-                op,
-                reply,
-            },
-        ),
+        _ => keep_whole(whole, actor, ObjectId::Shared { map, part }, op, reply),
     }
 }
 
 /// Keeps what a step did at the tables of an actor.
-fn keep_add(keys: &mut Vec<Key>, slots: &mut Vec<u32>, whole: &mut Vec<Deed>, deed: Deed) -> Mark
+fn keep_add(
+    keys: &mut Vec<Key>,
+    slots: &mut Vec<u32>,
+    whole: &mut Vec<Deed>,
+    actor: u32,
+    owner: u32,
+    op: &mut Op,
+    reply: &mut Reply,
+) -> Mark
     requires few { length keys.old.items < 0xffffffff }
-    requires actor { deed.actor < 256 }
+    requires actor { actor < 256 }
     requires keys { vec_len keys.old < vec_capacity keys.old }
     requires whole { vec_len whole.old < vec_capacity whole.old }
     ensures keys { Extends keys.old.items keys.new.items }
     ensures whole { Extends whole.old.items whole.new.items }
     ensures within { (prints : ℕ) → IsTrue (is_within (length keys.new.items) (length whole.new.items) prints result) }
-    ensures deed { (prints : List Sent) → deed_of keys.new.items whole.new.items prints result ≡ deed }
+    ensures deed { (prints : List Sent) → deed_of keys.new.items whole.new.items prints result ≡ deed actor (Cpu owner) op.old reply.old }
 {
-    let actor = deed.actor;
-    match (deed.object, deed.op, deed.reply) {
-        (ObjectId::Cpu(owner), Op::Add(map, key, number), Reply::Done)
-            if map.0 < 256 && owner == actor => Mark::Add {
+    match (&*op, &*reply) {
+        (Op::Add(map, _, number), Reply::Done) if map.0 < 256 && owner == actor => Mark::Add {
             actor: actor as u8,
             map: map.0 as u8,
-            key: keep_key(keys, slots, key),
-            number,
+            number: *number,
+            key: keep_key_of(keys, slots, op),
         },
-        (object, op, reply) => keep_whole(
-            whole,
-            Deed {
-                actor,
-                object,
-                op,
-                reply,
-            },
+        _ => keep_whole(whole, actor, ObjectId::Cpu(owner), op, reply),
+    }
+}
+
+/// Keeps the key of an operation that has one, and tells its number. There is room for it.
+fn keep_key_of(keys: &mut Vec<Key>, slots: &mut Vec<u32>, op: &mut Op) -> u32
+    requires op { HasKey op.old }
+    requires few { length keys.old.items < 0xffffffff }
+    requires keys { vec_len keys.old < vec_capacity keys.old }
+    ensures kept { Extends keys.old.items keys.new.items }
+    ensures within { result < length keys.new.items }
+    ensures key { get_or keys.new.items result [] ≡ key_of op.old }
+{
+    match op {
+        Op::Get(key) | Op::Set(key, _) | Op::Delete(key) | Op::Add(_, key, _) => keep_key(
+            keys, slots, key,
         ),
+        _ => unreachable!(),
     }
 }
 
 /// Keeps what a step did at the clock.
-fn keep_check(whole: &mut Vec<Deed>, deed: Deed) -> Mark
-    requires actor { deed.actor < 256 }
+fn keep_check(whole: &mut Vec<Deed>, actor: u32, op: &mut Op, reply: &mut Reply) -> Mark
+    requires actor { actor < 256 }
     requires whole { vec_len whole.old < vec_capacity whole.old }
     ensures whole { Extends whole.old.items whole.new.items }
     ensures within { (keys prints : ℕ) → IsTrue (is_within keys (length whole.new.items) prints result) }
-    ensures deed { (keys : List (List Part)) (prints : List Sent) → deed_of keys whole.new.items prints result ≡ deed }
+    ensures deed { (keys : List (List Part)) (prints : List Sent) → deed_of keys whole.new.items prints result ≡ deed actor Clock op.old reply.old }
 {
-    let actor = deed.actor;
-    match (deed.object, deed.op, deed.reply) {
-        (ObjectId::Clock, Op::Check, Reply::Stopped(stopped)) => Mark::Check {
+    match (&*op, &*reply) {
+        (Op::Check, Reply::Stopped(stopped)) => Mark::Check {
             actor: actor as u8,
-            stopped,
+            stopped: *stopped,
         },
-        (object, op, reply) => keep_whole(
-            whole,
-            Deed {
-                actor,
-                object,
-                op,
-                reply,
-            },
-        ),
+        _ => keep_whole(whole, actor, ObjectId::Clock, op, reply),
     }
 }
 
 /// Keeps what a step did at the output.
-fn keep_emit(whole: &mut Vec<Deed>, prints: &mut PrintList, deed: Deed) -> Mark
-    requires actor { deed.actor < 256 }
+fn keep_emit(
+    whole: &mut Vec<Deed>,
+    prints: &mut PrintList,
+    actor: u32,
+    op: &mut Op,
+    reply: &mut Reply,
+) -> Mark
+    requires actor { actor < 256 }
     requires whole { vec_len whole.old < vec_capacity whole.old }
     ensures whole { Extends whole.old.items whole.new.items }
     ensures prints { Extends prints.old prints.new }
     ensures within { (keys : ℕ) → IsTrue (is_within keys (length whole.new.items) (length prints.new) result) }
-    ensures deed { (keys : List (List Part)) → deed_of keys whole.new.items prints.new result ≡ deed }
+    ensures deed { (keys : List (List Part)) → deed_of keys whole.new.items prints.new result ≡ deed actor Out op.old reply.old }
 {
-    match keep_print(prints, &deed) {
+    match keep_print(prints, op, reply) {
         Some(print) => Mark::Print {
-            actor: deed.actor as u8,
+            actor: actor as u8,
             print,
         },
-        None => keep_whole(whole, deed),
+        None => keep_whole(whole, actor, ObjectId::Out, op, reply),
     }
 }
 
-/// Keeps what a `printf` call emitted, and tells its number. `None` where the deed is another one, or where there is no room for it.
-fn keep_print(prints: &mut PrintList, deed: &Deed) -> Option<u32>
+/// Keeps what a `printf` call emitted, and tells its number. `None` where another operation or reply is told, or where there is no room for it.
+fn keep_print(prints: &mut PrintList, op: &Op, reply: &Reply) -> Option<u32>
     ensures prints { Extends prints.old prints.new }
     ensures kept { IfSome result (λ print. (print < length prints.new)
-        × (deed.now ≡ emitted deed.now.actor (get_or prints.new print no_item))) }
+        × ((actor : ℕ) → deed actor Out op.now reply.now ≡ emitted actor (get_or prints.new print no_item))) }
 {
     if prints.len() >= 0xffff_ffff {
         return None;
     }
-    let ObjectId::Out = deed.object else {
+    let Reply::Done = reply else {
         return None;
     };
-    let Reply::Done = &deed.reply else {
-        return None;
-    };
-    let Op::Emit(item) = &deed.op else {
+    let Op::Emit(item) = op else {
         return None;
     };
     match item {
@@ -290,14 +277,25 @@ fn keep_print(prints: &mut PrintList, deed: &Deed) -> Option<u32>
     }
 }
 
-/// Keeps a deed whole, behind all others. There is room for it.
-fn keep_whole(whole: &mut Vec<Deed>, deed: Deed) -> Mark
+/// Keeps a deed whole, behind all others, and takes its operation and its reply out. There is room for it.
+fn keep_whole(
+    whole: &mut Vec<Deed>,
+    actor: u32,
+    object: ObjectId,
+    op: &mut Op,
+    reply: &mut Reply,
+) -> Mark
     requires whole { vec_len whole.old < vec_capacity whole.old }
     ensures whole { Extends whole.old.items whole.new.items }
     ensures within { (keys prints : ℕ) → IsTrue (is_within keys (length whole.new.items) prints result) }
-    ensures deed { (keys : List (List Part)) (prints : List Sent) → deed_of keys whole.new.items prints result ≡ deed }
+    ensures deed { (keys : List (List Part)) (prints : List Sent) → deed_of keys whole.new.items prints result ≡ deed actor object op.old reply.old }
 {
     let place = whole.len() as u64;
-    whole.push_reserved(deed);
+    whole.push_reserved(Deed {
+        actor,
+        object,
+        op: mem::replace(op, Op::Stop),
+        reply: mem::replace(reply, Reply::Done),
+    });
     Mark::Whole(place)
 }

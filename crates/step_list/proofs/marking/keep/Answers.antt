@@ -1,5 +1,7 @@
-use Rattle.std.proofs.Common.{[], append-nil, length, sym}
-use Rattle.step_list.proofs.marking.keep_deed.Goals as goal
+use Rattle.std.proofs.Common.{[], append-nil, length, sym, ap, ◌∙◌}
+use Rattle.bt_core.specs.declared.step.ObjectId.{ObjectId}
+use Rattle.step_list.specs.Deeds.{deed}
+use Rattle.step_list.proofs.marking.keep.Goals as goal
 
 pub keep_whole-requires : goal.keep_whole-requires
 keep_whole-requires c = record { whole = c.requires.whole }
@@ -50,7 +52,8 @@ pub returns-in-Shared-clause-within : goal.returns-in-Shared-clause-within
 returns-in-Shared-clause-within c = c.keep_shared.ensures.within (length c.args.prints.now)
 
 pub returns-in-Shared-clause-deed : goal.returns-in-Shared-clause-deed
-returns-in-Shared-clause-deed c = c.keep_shared.ensures.deed c.args.prints.now
+returns-in-Shared-clause-deed c =
+    c.keep_shared.ensures.deed c.args.prints.now ∙ ap (λ (object : ObjectId). deed c.args.actor object c.args.op.now c.args.reply.now) (sym c.in-Shared.is)
 
 pub returns-in-Cpu-clause-keys : goal.returns-in-Cpu-clause-keys
 returns-in-Cpu-clause-keys c = c.keep_add.ensures.keys
@@ -65,7 +68,8 @@ pub returns-in-Cpu-clause-within : goal.returns-in-Cpu-clause-within
 returns-in-Cpu-clause-within c = c.keep_add.ensures.within (length c.args.prints.now)
 
 pub returns-in-Cpu-clause-deed : goal.returns-in-Cpu-clause-deed
-returns-in-Cpu-clause-deed c = c.keep_add.ensures.deed c.args.prints.now
+returns-in-Cpu-clause-deed c =
+    c.keep_add.ensures.deed c.args.prints.now ∙ ap (λ (object : ObjectId). deed c.args.actor object c.args.op.now c.args.reply.now) (sym c.in-Cpu.is)
 
 pub returns-in-Clock-clause-keys : goal.returns-in-Clock-clause-keys
 returns-in-Clock-clause-keys c = ([], sym (append-nil c.args.keys.now.items))
@@ -80,7 +84,8 @@ pub returns-in-Clock-clause-within : goal.returns-in-Clock-clause-within
 returns-in-Clock-clause-within c = c.keep_check.ensures.within (length c.args.keys.now.items) (length c.args.prints.now)
 
 pub returns-in-Clock-clause-deed : goal.returns-in-Clock-clause-deed
-returns-in-Clock-clause-deed c = c.keep_check.ensures.deed c.args.keys.now.items c.args.prints.now
+returns-in-Clock-clause-deed c =
+    c.keep_check.ensures.deed c.args.keys.now.items c.args.prints.now ∙ ap (λ (object : ObjectId). deed c.args.actor object c.args.op.now c.args.reply.now) (sym c.in-Clock.is)
 
 pub returns-in-Out-clause-keys : goal.returns-in-Out-clause-keys
 returns-in-Out-clause-keys c = ([], sym (append-nil c.args.keys.now.items))
@@ -95,4 +100,5 @@ pub returns-in-Out-clause-within : goal.returns-in-Out-clause-within
 returns-in-Out-clause-within c = c.keep_emit.ensures.within (length c.args.keys.now.items)
 
 pub returns-in-Out-clause-deed : goal.returns-in-Out-clause-deed
-returns-in-Out-clause-deed c = c.keep_emit.ensures.deed c.args.keys.now.items
+returns-in-Out-clause-deed c =
+    c.keep_emit.ensures.deed c.args.keys.now.items ∙ ap (λ (object : ObjectId). deed c.args.actor object c.args.op.now c.args.reply.now) (sym c.in-Out.is)
