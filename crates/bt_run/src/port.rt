@@ -96,6 +96,7 @@ impl Model for SerialPort {
 
 /// One step of the actor whose turn it is. What the step has to keep of the operation is taken out of it. After [`Memory`] no step was made,
 /// and the operation is as it was.
+#[inline(always)]
 fn make_step(alloc: Global, run: &mut Running, object: ObjectId, op: &mut Op) -> Result<(), Memory>
     requires run { IsRunning run.old }
     requires can { CanStep (setting_of (seen_of run.old)) object op.old }
@@ -113,7 +114,8 @@ fn make_step(alloc: Global, run: &mut Running, object: ObjectId, op: &mut Op) ->
     let (mut reply, stamp) = take_at(alloc, &mut run.objects, object, &*op, clock)?;
     run.lasts[actor as usize] = stamp;
     run.top = run.top.max(stamp);
-    run.steps.push_reserved(actor, object, stamp, op, &mut reply);
+    run.steps
+        .push_reserved(actor, object, stamp, op, &mut reply);
     Ok(())
 }
 

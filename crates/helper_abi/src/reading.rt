@@ -60,6 +60,7 @@ pub fn shape_of_kind(kind: MapKind) -> Shape
 }
 
 // The value in its bytes.
+#[inline(always)]
 pub(crate) fn value_in(shape: Shape, bytes: &[u8]) -> Value
     requires { length bytes.now ≡ shape_bytes shape }
     ensures value { result ≡ value_in shape bytes.now }
@@ -147,6 +148,7 @@ pub fn values_at(
 }
 
 // The key of one part at an address.
+#[inline(always)]
 fn key_of_one(memory: &Regions, shape: Shape, address: u64) -> Option<Key>
     ensures value { MatchOption result (values_at memory.now (shape ∷ []) address ≡ None)
         (λ key. values_at memory.now (shape ∷ []) address ≡ Some key) }
@@ -161,6 +163,7 @@ fn key_of_one(memory: &Regions, shape: Shape, address: u64) -> Option<Key>
 /// # Errors
 ///
 /// As of [`values_at`].
+#[inline(always)]
 pub fn key_at(
     alloc: Global,
     memory: &Regions,

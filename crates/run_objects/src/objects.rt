@@ -31,6 +31,7 @@ pub struct Objects {
 
 /// Takes an operation at one of the objects, by an actor with this clock, and tells its reply and its stamp. After [`Memory`] it
 /// is as if the operation had not been asked.
+#[inline(always)]
 pub fn take_at(
     alloc: Global,
     objects: &mut Objects,

@@ -19,6 +19,7 @@ pub struct OwnObject<O> {
 impl<O: SeqObject> OwnObject<O> {
     /// Takes one operation, and tells its reply and its stamp, which is one more than the greater of both clocks: the
     /// object's and the actor's. After [`Memory`] it is as if the operation had not been asked.
+    #[inline(always)]
     pub fn take(&mut self, alloc: Global, op: &Op, clock: u64) -> Result<(Reply, u64), Memory>
         requires { O.is_own (O.kind self.old.object) op.now }
         ensures kind { O.kind self.new.object ≡ O.kind self.old.object }
@@ -41,6 +42,7 @@ impl<O: SeqObject> OwnObject<O> {
 }
 
 /// Takes one operation at one of these objects, as [`OwnObject::take`] does.
+#[inline(always)]
 pub fn take_in<O: SeqObject>(
     alloc: Global,
     list: &mut Vec<OwnObject<O>>,

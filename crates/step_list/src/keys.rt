@@ -30,6 +30,7 @@ pub(crate) fn key_at(alloc: Global, keys: &[Key], number: u32) -> Result<Key, Me
 ///
 /// The slot of the key's hash names the number of a key, which is compared, so that any numbers may stand in the slots. Where the slot
 /// names another key, this one is put behind all keys, though it may be among them, and the slot names it from then on.
+#[inline(always)]
 pub(crate) fn keep_key(keys: &mut Vec<Key>, slots: &mut Vec<u32>, key: &mut Key) -> u32
     requires room { vec_len keys.old < vec_capacity keys.old }
     requires few { length keys.old.items < 0xffffffff }
@@ -64,6 +65,7 @@ fn put_key(keys: &mut Vec<Key>, key: &mut Key)
 }
 
 /// Whether two keys are one.
+#[inline(always)]
 fn is_same(one: &Key, other: &Key) -> bool
     ensures { IsTrue result → one.now ≡ other.now }
 {
@@ -84,6 +86,7 @@ pub(crate) fn slots_for(alloc: Global, keys: &[Key]) -> Result<Vec<u32>, Memory>
 }
 
 /// The slot of a key among so many. No clause rests on which one it is.
+#[inline(always)]
 fn slot_of(key: &Key, slots: usize) -> usize
     ensures { 0 < slots → result < slots }
 {
@@ -98,6 +101,7 @@ fn slot_of(key: &Key, slots: usize) -> usize
 }
 
 /// The place among so many that a hash has by its high bits.
+#[inline(always)]
 fn place_among(sum: u64, places: usize) -> usize
     ensures { 0 < places → result < places }
 {
@@ -105,6 +109,7 @@ fn place_among(sum: u64, places: usize) -> usize
 }
 
 /// A hash that has taken in a text more, eight bytes at a time.
+#[inline(always)]
 fn text_mixed(mut sum: u64, bytes: &[u8]) -> u64 {
     let words = bytes.len() / 8;
     let rest = bytes.len() % 8;
@@ -118,6 +123,7 @@ fn text_mixed(mut sum: u64, bytes: &[u8]) -> u64 {
 }
 
 /// A hash that has taken in one word more.
+#[inline(always)]
 fn mixed(sum: u64, word: u64) -> u64 {
     (sum ^ word).wrapping_mul(MULTIPLIER)
 }

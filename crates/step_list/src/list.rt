@@ -146,6 +146,7 @@ impl StepList {
     }
 
     /// Makes room for one step. The steps stay, also after [`Memory`], and so does room that was there, with which it does not fail.
+    #[inline(always)]
     pub fn reserve(&mut self, alloc: Global) -> Result<(), Memory>
         ensures steps { steps_in self.new ≡ steps_in self.old }
         ensures room { OnOk result (HasPlace self.new) }
@@ -163,6 +164,7 @@ impl StepList {
 
     /// Adds a step behind all others. There is room for it. What has to be kept of the operation and of the reply is taken out of them, so
     /// nothing is said of what they are then.
+    #[inline(always)]
     pub fn push_reserved(
         &mut self,
         actor: u32,
@@ -191,6 +193,7 @@ impl StepList {
 }
 
 /// Makes room for one place, one key and one deed more, and for the numbers of more keys where the slots are as many as the keys.
+#[inline(always)]
 fn reserve_one(
     alloc: Global,
     places: &mut Vec<Place>,
@@ -222,6 +225,7 @@ fn reserve_one(
 }
 
 /// Keeps the reply that a mark tells by itself. Most are `Done` behind `Done`, and then nothing is written.
+#[inline(always)]
 fn note_last(last: &mut Reply, mark: &Mark)
     ensures { last.new ≡ reply_told mark.now }
 {

@@ -83,6 +83,7 @@ pub(crate) fn print_at(alloc: Global, prints: &PrintList, print: u32) -> Result<
 
 /// Keeps what a step did, and tells the mark by which it is found. There is room for a key and for a deed. What is kept of the operation
 /// and of the reply is taken out of them.
+#[inline(always)]
 pub(crate) fn keep(
     keys: &mut Vec<Key>,
     slots: &mut Vec<u32>,
@@ -163,6 +164,7 @@ fn keep_shared(
 }
 
 /// Keeps what a step did at the tables of an actor.
+#[inline(always)]
 fn keep_add(
     keys: &mut Vec<Key>,
     slots: &mut Vec<u32>,
