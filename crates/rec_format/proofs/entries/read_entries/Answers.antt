@@ -21,7 +21,7 @@ pub returns-in_err-format : goal.returns-in_err-format
 returns-in_err-format c =
     let s = c.args.setting.now in
     let fits : IsBytes c.args.bytes.now = λ i. omega (arith, c.type_inv.bytes i) in
-    let p = err_from_is_err_and c.from_residual.result c.from_residual.ensures.1 in
+    let p = err_from_is_err_and c.from_residual-in_err-format.result c.from_residual-in_err-format.ensures.1 in
     rw (p.1, p.2) (λ other. entry_refused (entries s.marks) (readable s.marks) (length s.file.now) s.formats.now s.start s.end c.args.cpu c.args.count c.loop-place.place c.loop-place.earliest
     c.args.bytes.now c.loop-place.rest.now c.in-Some.after.now (entries_in s.file.now c.loop-place.places.items) (entry_part c.in-Some.entry) c.in_err-format.field-0.0 fits c.loop-place-test.true c.loop-place.invariant.has c.loop-place.invariant.time
     (sym c.in-Some.ensures) (sym c.in_err-format.ensures.checked))
