@@ -28,7 +28,8 @@ pub(crate) fn goes_on<P: Port>(alloc: Global, checks: bool, port: &mut P) -> Res
     if !checks {
         return Ok(true);
     }
-    port.step(alloc, ObjectId::Clock, Op::Check)?;
+    let mut op = Op::Check;
+    port.step(alloc, ObjectId::Clock, &mut op)?;
     Ok(!is_stop(port.last()))
 }
 
@@ -38,6 +39,7 @@ pub(crate) fn crosses_last<P: Port>(alloc: Global, tick: u32, port: &mut P) -> R
     ensures performed { Performed (crossing_last tick) (P.steps port.old) (P.steps port.new) result }
     ensures port_kept { P.fixed port.new ≡ P.fixed port.old }
 {
-    port.step(alloc, ObjectId::Clock, Op::Cross(tick))?;
+    let mut op = Op::Cross(tick);
+    port.step(alloc, ObjectId::Clock, &mut op)?;
     Ok(is_last(port.last()))
 }

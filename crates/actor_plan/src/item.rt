@@ -87,11 +87,8 @@ fn run_mark<P: Port>(alloc: Global, number: u32, count: u64, port: &mut P) -> Re
     ensures none { IfOk result (λ instructions. instructions ≡ 0) }
     ensures port_kept { P.fixed port.new ≡ P.fixed port.old }
 {
-    port.step(
-        alloc,
-        ObjectId::Out,
-        Op::Emit(Item::Lost { cpu: number, count }),
-    )?;
+    let mut op = Op::Emit(Item::Lost { cpu: number, count });
+    port.step(alloc, ObjectId::Out, &mut op)?;
     Ok(0)
 }
 

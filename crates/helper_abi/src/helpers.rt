@@ -139,7 +139,8 @@ pub fn set<P: Port>(
         Err(fault) => return Err(fault),
     };
     let object = part(MapId(map as u32), &key);
-    tell(alloc, port, object, Op::Set(key, value), memory)
+    let mut op = Op::Set(key, value);
+    tell(alloc, port, object, &mut op, memory)
 }
 
 /// The key at an address is taken away.
@@ -164,7 +165,8 @@ pub fn delete<P: Port>(
         Err(fault) => return Err(fault),
     };
     let object = part(MapId(map as u32), &key);
-    tell(alloc, port, object, Op::Delete(key), memory)
+    let mut op = Op::Delete(key);
+    tell(alloc, port, object, &mut op, memory)
 }
 
 /// A number goes under the key at an address into the table of the actor.
@@ -191,8 +193,8 @@ pub fn aggregate<P: Port>(
         Ok(key) => key,
         Err(fault) => return Err(fault),
     };
-    let op = Op::Add(MapId(map as u32), key, number.cast_signed());
-    tell(alloc, port, ObjectId::Cpu(actor), op, memory)
+    let mut op = Op::Add(MapId(map as u32), key, number.cast_signed());
+    tell(alloc, port, ObjectId::Cpu(actor), &mut op, memory)
 }
 
 /// The number of an aggregation under the key at an address, over the tables of all actors, is written at another.
@@ -318,8 +320,8 @@ pub fn printf<P: Port>(
         Err(fault) => return Err(fault),
     };
     let format = format as u32;
-    let item = Item::Printf { format, values };
-    tell(alloc, port, ObjectId::Out, Op::Emit(item), memory)
+    let mut op = Op::Emit(Item::Printf { format, values });
+    tell(alloc, port, ObjectId::Out, &mut op, memory)
 }
 
 /// The run is stopped.
@@ -327,7 +329,8 @@ pub fn exit<P: Port>(alloc: Global, port: &mut P, memory: &Regions) -> Result<u6
     ensures called { Called (exit memory.now) (P.steps port.old) (P.steps port.new) result memory.now.frame }
     ensures kept { P.fixed port.new ≡ P.fixed port.old }
 {
-    tell(alloc, port, ObjectId::Clock, Op::Stop, memory)
+    let mut op = Op::Stop;
+    tell(alloc, port, ObjectId::Clock, &mut op, memory)
 }
 
 /// The warning that the loop of a line was cut is emitted.
@@ -344,8 +347,8 @@ pub fn cut<P: Port>(
     if line >= 0x1_0000_0000 {
         return Err(PortFault::Helper);
     }
-    let item = Item::Cut { line: line as u32 };
-    tell(alloc, port, ObjectId::Out, Op::Emit(item), memory)
+    let mut op = Op::Emit(Item::Cut { line: line as u32 });
+    tell(alloc, port, ObjectId::Out, &mut op, memory)
 }
 
 /// A string of the payload is written at an address. No step is made.

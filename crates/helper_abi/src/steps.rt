@@ -22,16 +22,17 @@ use map_ops::access;
 use map_ops::summing::sum_under;
 use std::alloc::Global;
 
-/// Makes a step whose reply says nothing.
+/// Makes a step whose reply says nothing. What the step has to keep of the operation is taken out of it, so nothing is said of the
+/// operation behind it. [`PortFault::Memory`] where there is no room for the step.
 pub fn tell<P: Port>(
     alloc: Global,
     port: &mut P,
     object: ObjectId,
-    op: Op,
+    op: &mut Op,
     memory: &Regions,
 ) -> Result<u64, PortFault>
-    requires { CanStep (P.fixed port.old).setting object op }
-    ensures called { Called (frame_kept memory.now (tells object op)) (P.steps port.old) (P.steps port.new) result memory.now.frame }
+    requires { CanStep (P.fixed port.old).setting object op.old }
+    ensures called { Called (frame_kept memory.now (tells object op.old)) (P.steps port.old) (P.steps port.new) result memory.now.frame }
     ensures kept { P.fixed port.new ≡ P.fixed port.old }
 {
     match access::tell(alloc, object, op, port) {

@@ -27,11 +27,17 @@ pub fn part(map: MapId, key: &Key) -> ObjectId
     }
 }
 
-/// Makes a step whose reply says nothing.
+/// Makes a step whose reply says nothing. What the step has to keep of the operation is taken out of it, so nothing is said of the
+/// operation behind it. [`Memory`] where there is no room for the step.
 #[tactic(auto, using(bt_core::proofs::InteractionLaws::composing))]
-pub fn tell<P: Port>(alloc: Global, object: ObjectId, op: Op, port: &mut P) -> Result<(), Memory>
-    requires { CanStep (P.fixed port.old).setting object op }
-    ensures performed { Performed (tells object op) (P.steps port.old) (P.steps port.new) result }
+pub fn tell<P: Port>(
+    alloc: Global,
+    object: ObjectId,
+    op: &mut Op,
+    port: &mut P,
+) -> Result<(), Memory>
+    requires { CanStep (P.fixed port.old).setting object op.old }
+    ensures performed { Performed (tells object op.old) (P.steps port.old) (P.steps port.new) result }
     ensures kept { P.fixed port.new ≡ P.fixed port.old }
 {
     port.step(alloc, object, op)?;
@@ -45,6 +51,8 @@ pub fn get<P: Port>(alloc: Global, map: MapId, key: Key, port: &mut P) -> Result
     ensures held { IfOk result (λ value. Serves (P.fixed port.old).setting.maps map (λ decl. IsOfKind decl.kind value)) }
     ensures kept { P.fixed port.new ≡ P.fixed port.old }
 {
-    port.step(alloc, part(map, &key), Op::Get(key))?;
+    let object = part(map, &key);
+    let mut op = Op::Get(key);
+    port.step(alloc, object, &mut op)?;
     Ok(value_of(port.last()))
 }

@@ -32,11 +32,11 @@ pub fn print_map<P: Port>(
 {
     let replies = ask_each(alloc, Sweep::Read, kind, map, actors, port)?;
     let rows = merged(alloc, kind, replies.as_slice())?;
-    let item = Item::Map {
+    let mut op = Op::Emit(Item::Map {
         map,
         rows,
         top,
         div,
-    };
-    tell(alloc, ObjectId::Out, Op::Emit(item), port)
+    });
+    tell(alloc, ObjectId::Out, &mut op, port)
 }

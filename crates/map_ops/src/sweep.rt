@@ -76,7 +76,8 @@ pub fn ask_each<P: Port>(
 {
     let mut replies = Items::new(alloc);
     for place in 0..holders(kind, actors) {
-        port.step(alloc, holder(kind, map, place), sweep_op(sweep, kind, map))?;
+        let mut op = sweep_op(sweep, kind, map);
+        port.step(alloc, holder(kind, map, place), &mut op)?;
         let reply = port.last().copy(alloc)?;
         replies.push(reply)?;
     }

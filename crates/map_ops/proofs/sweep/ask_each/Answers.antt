@@ -21,21 +21,21 @@ returns-in_err-step-clause-performed g c =
 pub returns-in_err-reply-clause-performed : goal.returns-in_err-reply-clause-performed
 returns-in_err-reply-clause-performed g c =
     let p = err_from_is_err_and c.from_residual-in_err-reply.result c.from_residual-in_err-reply.ensures.1 in
-    let made = rw (c.holder.ensures, c.sweep_op.ensures) at c.in_ok-step.ensures.made in
+    let made = rw (c.holder.ensures, c.sweep_op-op.ensures) at c.in_ok-step.ensures.made in
     let below : c.loop-place.place < holders c.args.kind c.args.actors = omega (arith, c.loop-place-test.true, c.holders-place-end.ensures) in
     rw p.1 (sweep-drop _ _ _ _ _ _ _ _ _ _ below c.loop-place.invariant.left made)
 
 pub returns-in_err-push-clause-performed : goal.returns-in_err-push-clause-performed
 returns-in_err-push-clause-performed g c =
     let p = err_from_is_err_and c.from_residual-in_err-push.result c.from_residual-in_err-push.ensures.1 in
-    let made = rw (c.holder.ensures, c.sweep_op.ensures) at c.in_ok-step.ensures.made in
+    let made = rw (c.holder.ensures, c.sweep_op-op.ensures) at c.in_ok-step.ensures.made in
     let below : c.loop-place.place < holders c.args.kind c.args.actors = omega (arith, c.loop-place-test.true, c.holders-place-end.ensures) in
     rw p.1 (sweep-drop _ _ _ _ _ _ _ _ _ _ below c.loop-place.invariant.left made)
 
 pub loop-place-preserved : goal.loop-place-preserved
 loop-place-preserved g c =
-    let made = rw (c.holder.ensures, c.sweep_op.ensures) at c.in_ok-step.ensures.made in
-    let replied = rw (c.holder.ensures, c.sweep_op.ensures, c.loop-place.invariant.kept) at c.in_ok-step.ensures.replied in
+    let made = rw (c.holder.ensures, c.sweep_op-op.ensures) at c.in_ok-step.ensures.made in
+    let replied = rw (c.holder.ensures, c.sweep_op-op.ensures, c.loop-place.invariant.kept) at c.in_ok-step.ensures.replied in
     let below : c.loop-place.place < holders c.args.kind c.args.actors = omega (arith, c.loop-place-test.true, c.holders-place-end.ensures) in
     let last = c.in_ok-reply.ensures ∙ c.last.ensures in
     record {
