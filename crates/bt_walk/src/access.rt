@@ -72,7 +72,8 @@ pub fn set<P: Port>(
     ensures kept { P.fixed port.new ≡ P.fixed port.old }
 {
     let object = part(map, &key);
-    tell(alloc, object, Op::Set(key, value), port)
+    let mut op = Op::Set(key, value);
+    tell(alloc, object, &mut op, port)
 }
 
 /// Takes a key of a map away.
@@ -82,5 +83,6 @@ pub fn delete<P: Port>(alloc: Global, map: MapId, key: Key, port: &mut P) -> Res
     ensures kept { P.fixed port.new ≡ P.fixed port.old }
 {
     let object = part(map, &key);
-    tell(alloc, object, Op::Delete(key), port)
+    let mut op = Op::Delete(key);
+    tell(alloc, object, &mut op, port)
 }

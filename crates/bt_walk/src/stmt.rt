@@ -184,7 +184,8 @@ pub fn gather<P: Port>(
 {
     let key = key(alloc, view, keys, frame, port)?;
     let n = number_or_one(alloc, view, number, frame, port)?;
-    let added = tell(alloc, ObjectId::Cpu(view.actor), Op::Add(map, key, n), port);
+    let mut op = Op::Add(map, key, n);
+    let added = tell(alloc, ObjectId::Cpu(view.actor), &mut op, port);
     next_after(added)
 }
 
@@ -242,8 +243,8 @@ pub fn printf<P: Port>(
     ensures turns { frame.new.turns ≡ frame.old.turns }
 {
     let values = values(alloc, view, es, frame, port)?;
-    let item = Item::Printf { format, values };
-    next_after(tell(alloc, ObjectId::Out, Op::Emit(item), port))
+    let mut op = Op::Emit(Item::Printf { format, values });
+    next_after(tell(alloc, ObjectId::Out, &mut op, port))
 }
 
 /// `print(map, top, div)`: one item with the merged rows of all objects that hold the map, also where there are none.
@@ -327,7 +328,8 @@ pub fn jump<P: Port>(alloc: Global, jump: Jump, port: &mut P) -> Result<Flow, Me
         Jump::Break => Ok(Flow::Break),
         Jump::Continue => Ok(Flow::Continue),
         Jump::Exit => {
-            tell(alloc, ObjectId::Clock, Op::Stop, port)?;
+            let mut op = Op::Stop;
+            tell(alloc, ObjectId::Clock, &mut op, port)?;
             Ok(Flow::Stop(Ending::Exit))
         }
         Jump::Return => Ok(Flow::Stop(Ending::Return)),
@@ -340,6 +342,7 @@ pub fn cut<P: Port>(alloc: Global, line: u32, port: &mut P) -> Result<Flow, Memo
     ensures stops { IfOk result (λ flow. flow ≡ Flow.Stop Ending.Cut) }
     ensures kept { P.fixed port.new ≡ P.fixed port.old }
 {
-    tell(alloc, ObjectId::Out, Op::Emit(Item::Cut { line }), port)?;
+    let mut op = Op::Emit(Item::Cut { line });
+    tell(alloc, ObjectId::Out, &mut op, port)?;
     Ok(Flow::Stop(Ending::Cut))
 }
