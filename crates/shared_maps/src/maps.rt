@@ -97,11 +97,12 @@ impl SharedMaps {
     ///
     /// The trace grows by this step, whose reply is of the kind that the operation has; what of it is at any
     /// other object stays, and what of it is at each part is still the turn's own list there, if it was so
-    /// before. The gate is told of the turn while it is held.
+    /// before. The gate is told of the turn while it is held. What the step has to keep of the operation is
+    /// taken out of it, so nothing is said of the operation behind a step.
     ///
-    /// After [`Memory`] the trace and all own lists are as before. Where the trace had room for a step,
-    /// [`Memory`] is answered only where the operation is not free after the history that the turn has then
-    /// seen, or where a clock stands at its end.
+    /// After [`Memory`] the trace, all own lists and the operation are as before. Where the trace had room for
+    /// a step, [`Memory`] is answered only where the operation is not free after the history that the turn has
+    /// then seen, or where a clock stands at its end.
     pub fn step<G: Gate, R: Wait>(
         &self,
         rt: &R,
@@ -109,17 +110,18 @@ impl SharedMaps {
         turns: &mut Turns,
         trace: &mut Trace,
         object: ObjectId,
-        op: Op,
+        op: &mut Op,
         gate: &G,
     ) -> Result<(), Memory>
-        requires own { IsPartStep (part_maps self.now) object op }
+        requires own { IsPartStep (part_maps self.now) object op.old }
         requires turns { ArePartTurns self.now turns.old }
         requires actor { turns.old.0 ≡ actor_of trace.old }
         ensures turns { ArePartTurns self.now turns.new × (turns.new.0 ≡ turns.old.0) }
         ensures actor { actor_of trace.new ≡ actor_of trace.old }
-        ensures done { OnOk result (Grows object op trace.old trace.new) }
-        ensures replied { OnOk result (IsReplyOf (part_maps self.now) object op (last_reply (steps_of trace.new))) }
+        ensures done { OnOk result (Grows object op.old trace.old trace.new) }
+        ensures replied { OnOk result (IsReplyOf (part_maps self.now) object op.old (last_reply (steps_of trace.new))) }
         ensures memory { OnErr result (IsSame trace.old trace.new × (map mine turns.new.1 ≡ map mine turns.old.1)) }
+        ensures whole { OnErr result (op.new ≡ op.old) }
 
         // what of the trace is at each object
         ensures own { AreOwn (part_ids self.now) turns.old.1 trace.old → AreOwn (part_ids self.now) turns.new.1 trace.new }
@@ -127,7 +129,7 @@ impl SharedMaps {
 
         // with room that was reserved
         ensures cause { HasRoom trace.old → OnErr result
-            (RefusesAt (part_actors self.now) (parts_from 0 (part_maps self.now)) object (clock_of trace.old) op turns.old.1 turns.new.1) }
+            (RefusesAt (part_actors self.now) (parts_from 0 (part_maps self.now)) object (clock_of trace.old) op.old turns.old.1 turns.new.1) }
         ensures room { HasRoom trace.old → OnErr result (HasRoom trace.new) }
     {
         let place = self.place_of(object);

@@ -110,10 +110,11 @@ impl SideLocks {
     ///
     /// The trace grows by this step, whose reply is of the kind that the operation has; what of it is at any
     /// other object stays, and what of it is at the clock and at the output is still the turns' own lists
-    /// there, if it was so before. The gate is told of the turn while it is held.
+    /// there, if it was so before. The gate is told of the turn while it is held. What the step has to keep of
+    /// the operation is taken out of it, so nothing is said of the operation behind a step.
     ///
-    /// After [`Memory`] the trace and both own lists are as before. Where the trace had room for a step,
-    /// [`Memory`] is answered only where a clock stands at its end.
+    /// After [`Memory`] the trace, both own lists and the operation are as before. Where the trace had room for
+    /// a step, [`Memory`] is answered only where a clock stands at its end.
     pub fn step<G: Gate, R: Wait>(
         &self,
         rt: &R,
@@ -121,24 +122,25 @@ impl SideLocks {
         turns: &mut SideTurns,
         trace: &mut Trace,
         object: ObjectId,
-        op: Op,
+        op: &mut Op,
         gate: &G,
     ) -> Result<(), Memory>
-        requires own { IsSideStep (side_kind self.now).ticks object op }
+        requires own { IsSideStep (side_kind self.now).ticks object op.old }
         requires turns { AreSideTurns self.now turns.old }
         requires actor { AreBy (actor_of trace.old) turns.old }
         ensures turns { AreSideTurns self.now turns.new × AreBy (actor_of trace.old) turns.new }
         ensures actor { actor_of trace.new ≡ actor_of trace.old }
-        ensures done { OnOk result (Grows object op trace.old trace.new) }
-        ensures replied { OnOk result (IsReplyOf [] object op (last_reply (steps_of trace.new))) }
+        ensures done { OnOk result (Grows object op.old trace.old trace.new) }
+        ensures replied { OnOk result (IsReplyOf [] object op.old (last_reply (steps_of trace.new))) }
         ensures memory { OnErr result (IsSame trace.old trace.new × SameOwn turns.old turns.new) }
+        ensures whole { OnErr result (op.new ≡ op.old) }
 
         // what of the trace is at each object
         ensures own { OwnBoth turns.old trace.old → OwnBoth turns.new trace.new }
         ensures elsewhere { (o : ObjectId) → o ≢ object → at_object o trace.new ≡ at_object o trace.old }
 
         // with room that was reserved
-        ensures cause { HasRoom trace.old → OnErr result (RefusesAt (side_kind self.now) object (clock_of trace.old) op turns.old turns.new) }
+        ensures cause { HasRoom trace.old → OnErr result (RefusesAt (side_kind self.now) object (clock_of trace.old) op.old turns.old turns.new) }
         ensures room { HasRoom trace.old → OnErr result (HasRoom trace.new) }
     {
         match object {

@@ -16,11 +16,11 @@ use Rattle.shared_maps.proofs.PlaceLemmas.{parts_are_distinct}
 use Rattle.shared_maps.proofs.maps.SharedMaps.step.Goals as goal
 
 pub place_of-place-requires : goal.place_of-place-requires
-place_of-place-requires g c = step_is_at_part c.args.self.now.maps c.args.object c.args.op c.requires.own
+place_of-place-requires g c = step_is_at_part c.args.self.now.maps c.args.object c.args.op.now c.requires.own
 
 pub step-requires-clause-own : goal.step-requires-clause-own
 step-requires-clause-own g c =
-    let set = c.args.self.now.set in let maps = c.args.self.now.maps in let object = c.args.object in let op = c.args.op in let place = c.place_of-place.result in
+    let set = c.args.self.now.set in let maps = c.args.self.now.maps in let object = c.args.object in let op = c.args.op.now in let place = c.place_of-place.result in
     let found = there_is (IsPartFor maps object) (slice_get (parts_from 0 maps) place) c.place_of-place.ensures in let part = found.0 in
     let there = ap (λ ids. slice_get ids place) c.args.self.now.ids ∙ of_part (λ (part : Part). part.0) (parts_from 0 maps) place part found.1 ∙ ap Some (the_object maps object part found.2) in
     let kind = ap (λ kinds. slice_get kinds place) c.args.self.now.kinds ∙ of_part (λ (part : Part). part.1) (parts_from 0 maps) place part found.1 in
@@ -31,7 +31,7 @@ step-requires-clause-distinct g c = subst AreDistinct (sym c.args.self.now.ids) 
 
 pub returns-clause-done : goal.returns-clause-done
 returns-clause-done g c =
-    let set = c.args.self.now.set in let maps = c.args.self.now.maps in let object = c.args.object in let op = c.args.op in let place = c.place_of-place.result in
+    let set = c.args.self.now.set in let maps = c.args.self.now.maps in let object = c.args.object in let op = c.args.op.now in let place = c.place_of-place.result in
     let found = there_is (IsPartFor maps object) (slice_get (parts_from 0 maps) place) c.place_of-place.ensures in let part = found.0 in
     let there = ap (λ ids. slice_get ids place) c.args.self.now.ids ∙ of_part (λ (part : Part). part.0) (parts_from 0 maps) place part found.1 ∙ ap Some (the_object maps object part found.2) in
     let kind = ap (λ kinds. slice_get kinds place) c.args.self.now.kinds ∙ of_part (λ (part : Part). part.1) (parts_from 0 maps) place part found.1 in
@@ -39,7 +39,7 @@ returns-clause-done g c =
 
 pub returns-clause-replied : goal.returns-clause-replied
 returns-clause-replied g c =
-    let set = c.args.self.now.set in let maps = c.args.self.now.maps in let object = c.args.object in let op = c.args.op in let place = c.place_of-place.result in
+    let set = c.args.self.now.set in let maps = c.args.self.now.maps in let object = c.args.object in let op = c.args.op.now in let place = c.place_of-place.result in
     let found = there_is (IsPartFor maps object) (slice_get (parts_from 0 maps) place) c.place_of-place.ensures in let part = found.0 in
     let there = ap (λ ids. slice_get ids place) c.args.self.now.ids ∙ of_part (λ (part : Part). part.0) (parts_from 0 maps) place part found.1 ∙ ap Some (the_object maps object part found.2) in
     let kind = ap (λ kinds. slice_get kinds place) c.args.self.now.kinds ∙ of_part (λ (part : Part). part.1) (parts_from 0 maps) place part found.1 in
@@ -48,7 +48,7 @@ returns-clause-replied g c =
 
 pub returns-clause-elsewhere : goal.returns-clause-elsewhere
 returns-clause-elsewhere g c o other =
-    let set = c.args.self.now.set in let maps = c.args.self.now.maps in let object = c.args.object in let op = c.args.op in let place = c.place_of-place.result in
+    let set = c.args.self.now.set in let maps = c.args.self.now.maps in let object = c.args.object in let op = c.args.op.now in let place = c.place_of-place.result in
     let found = there_is (IsPartFor maps object) (slice_get (parts_from 0 maps) place) c.place_of-place.ensures in let part = found.0 in
     let there = ap (λ ids. slice_get ids place) c.args.self.now.ids ∙ of_part (λ (part : Part). part.0) (parts_from 0 maps) place part found.1 ∙ ap Some (the_object maps object part found.2) in
     let kind = ap (λ kinds. slice_get kinds place) c.args.self.now.kinds ∙ of_part (λ (part : Part). part.1) (parts_from 0 maps) place part found.1 in
@@ -56,7 +56,7 @@ returns-clause-elsewhere g c o other =
 
 pub returns-clause-cause : goal.returns-clause-cause
 returns-clause-cause g c room =
-    let set = c.args.self.now.set in let maps = c.args.self.now.maps in let object = c.args.object in let op = c.args.op in let place = c.place_of-place.result in
+    let set = c.args.self.now.set in let maps = c.args.self.now.maps in let object = c.args.object in let op = c.args.op.now in let place = c.place_of-place.result in
     let found = there_is (IsPartFor maps object) (slice_get (parts_from 0 maps) place) c.place_of-place.ensures in let part = found.0 in
     let there = ap (λ ids. slice_get ids place) c.args.self.now.ids ∙ of_part (λ (part : Part). part.0) (parts_from 0 maps) place part found.1 ∙ ap Some (the_object maps object part found.2) in
     let kind = ap (λ kinds. slice_get kinds place) c.args.self.now.kinds ∙ of_part (λ (part : Part). part.1) (parts_from 0 maps) place part found.1 in

@@ -12,7 +12,7 @@ use Rattle.side_locks.proofs.sides.SideLocks.step.Goals as goal
 
 pub returns-in-Clock-clause-cause : goal.returns-in-Clock-clause-cause
 returns-in-Clock-clause-cause g c room = let self = c.args.self.now in let kind : ClockKind = record { cpus = self.cpus; ticks = self.ticks } in let at = c.turns.inside.at_clock in let new = c.step.new.turns in
-    let floor = clock_of c.args.trace.now in let op = c.args.op in let both : Both = record { clock = new; out = c.turns.inside.at_out } in
+    let floor = clock_of c.args.trace.now in let op = c.args.op.now in let both : Both = record { clock = new; out = c.turns.inside.at_out } in
     on_err c.step.result _ _ (λ r. subst (λ o. RefusesAt kind o floor op c.args.turns.now both) (sym c.in-Clock.is)
     (subst (λ (b : Both). AtPlace (IsRefused (clock_law kind) always floor op) 0 b.clock.1 new.1) c.turns.view_is
     (subst (λ (n : ℕ). AtPlace (IsRefused (law_for own_of_clock reply_of_clock n kind) always floor op) 0 at.1 new.1) self.clock_actors
@@ -21,7 +21,7 @@ returns-in-Clock-clause-cause g c room = let self = c.args.self.now in let kind 
 
 pub returns-in-Out-clause-cause : goal.returns-in-Out-clause-cause
 returns-in-Out-clause-cause g c room = let self = c.args.self.now in let kind : ClockKind = record { cpus = self.cpus; ticks = self.ticks } in let at = c.turns.inside.at_out in let new = c.step-in-Out.new.turns in
-    let floor = clock_of c.args.trace.now in let op = c.args.op in let both : Both = record { clock = c.turns.inside.at_clock; out = new } in
+    let floor = clock_of c.args.trace.now in let op = c.args.op.now in let both : Both = record { clock = c.turns.inside.at_clock; out = new } in
     on_err c.step-in-Out.result _ _ (λ r. subst (λ o. RefusesAt kind o floor op c.args.turns.now both) (sym c.in-Out.is)
     (subst (λ (b : Both). AtPlace (IsRefused (out_law self.cpus) always floor op) 0 b.out.1 new.1) c.turns.view_is
     (subst (λ (n : ℕ). AtPlace (IsRefused (law_for own_of_out reply_of_out n tt) always floor op) 0 at.1 new.1) self.out_actors
