@@ -86,7 +86,10 @@ pub struct Start {
     pub trace: Trace,
 }
 
-/// One step at an object of the world, by the turn of its set.
+/// One step at an object of the world, by the turn of its set. What the step has to keep of the operation is taken out of it, so nothing is
+/// said of the operation behind a step.
+///
+/// After [`Memory`] no step was made, and the operation is as it was.
 fn make_step<R: Wait, G: Gate>(
     rt: &R,
     alloc: Global,
@@ -95,15 +98,16 @@ fn make_step<R: Wait, G: Gate>(
     turns: &mut WorkerTurns,
     trace: &mut Trace,
     object: ObjectId,
-    op: Op,
+    op: &mut Op,
 ) -> Result<(), Memory>
-    requires can { CanStep (setting_in world.now (actor_of trace.old)) object op }
+    requires can { CanStep (setting_in world.now (actor_of trace.old)) object op.old }
     requires turns { AreTurnsOf (sets_in world.now) (actor_of trace.old) turns.old }
     ensures turns { AreTurnsOf (sets_in world.now) (actor_of trace.old) turns.new }
     ensures actor { actor_of trace.new ≡ actor_of trace.old }
-    ensures done { OnOk result (Grows object op trace.old trace.new) }
-    ensures replied { OnOk result (IsReplyOf (maps_in world.now) object op (last_reply (steps_of trace.new))) }
+    ensures done { OnOk result (Grows object op.old trace.old trace.new) }
+    ensures replied { OnOk result (IsReplyOf (maps_in world.now) object op.old (last_reply (steps_of trace.new))) }
     ensures memory { OnErr result (IsSame trace.old trace.new) }
+    ensures whole { OnErr result (op.new ≡ op.old) }
     ensures own { KeepsOwn (sets_in world.now) turns.old trace.old turns.new trace.new }
 {
     match object {
@@ -203,7 +207,7 @@ impl<'w, R: Wait, G: Gate> Port for WorldPort<'w, R, G> {
 
     ghost fixed = { λ p. record { setting = p.setting; home = start_of p } };
 
-    fn step(&mut self, alloc: Global, object: ObjectId, op: Op) -> Result<(), Memory> {
+    fn step(&mut self, alloc: Global, object: ObjectId, op: &mut Op) -> Result<(), Memory> {
         make_step(
             self.rt,
             alloc,

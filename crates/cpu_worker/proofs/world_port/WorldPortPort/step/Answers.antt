@@ -12,7 +12,7 @@ invariant_of-self g c = let p = c.self.inside in let i = c.self.invariant in let
   actor = m.ensures.actor ∙ i.actor;
   turns_are = subst (λ a. AreTurnsOf (sets_in w) a m.new.turns) i.actor m.ensures.turns;
   own = keeps_more (sets_in w) p.first_turns.value p.first_trace.value p.turns p.trace m.new.turns m.new.trace i.own m.ensures.own;
-  since = since_step (setting_in w (actor_of p.first_trace.value)) c.args.object c.args.op
-      (subst (λ (v : AtWork). CanStep v.setting c.args.object c.args.op) (sym c.self.view_is) c.requires)
+  since = since_step (setting_in w (actor_of p.first_trace.value)) c.args.object c.args.op.now
+      (subst (λ (v : AtWork). CanStep v.setting c.args.object c.args.op.now) (sym c.self.view_is) c.requires)
       p.first_trace.value p.trace m.new.trace i.actor i.since m.result m.ensures.done m.ensures.memory;
 }
