@@ -1,5 +1,5 @@
 // A port that answers from a written list.
-ghost use Rattle.std.specs.Prelude.{◌≡◌, IfOk};
+ghost use Rattle.std.specs.Prelude.{◌≡◌, ◌++◌, ◌∷◌, [], IfOk, OnOk, OnErr};
 ghost use Rattle.bt_core.specs.Ports.{IsReplyOf};
 
 use crate::moments::Moment;
@@ -10,6 +10,7 @@ use bt_core::memory::{Memory, TryCopy};
 use bt_core::port::Port;
 use bt_core::step::{ObjectId, Op, Reply, Step};
 use std::alloc::{AllocError, Global};
+use std::mem;
 
 /// Keeps the steps that are made. A `Get`, a `ReadAll` and a `Read` get the next reply of the list, and all other operations `Done`.
 #[derive(Drop)]
@@ -52,6 +53,39 @@ fn answer(
     }
 }
 
+// Adds a step of an actor at the end. Its operation is taken out; where there is no memory for the step, the operation and the list are
+// as before.
+fn keep_step(
+    steps: &mut Items<Step>,
+    actor: u32,
+    object: ObjectId,
+    op: &mut Op,
+    reply: Reply,
+) -> Result<(), Memory>
+    ensures ok { OnOk result (steps.new ≡ steps.old ++ record { actor = actor; object = object; stamp = 0; op = op.old; reply = reply } ∷ []) }
+    ensures err { OnErr result (steps.new ≡ steps.old) }
+    ensures whole { OnErr result (op.new ≡ op.old) }
+{
+    let place = steps.len();
+    let room = Step {
+        actor,
+        object,
+        stamp: 0,
+        op: Op::Stop,
+        reply: Reply::Done,
+    };
+    steps.push(room)?;
+    let step = Step {
+        actor,
+        object,
+        stamp: 0,
+        op: mem::replace(op, Op::Stop),
+        reply,
+    };
+    steps.set(place, step);
+    Ok(())
+}
+
 impl Port for Written {
     ghost use Rattle.std.specs.Prelude.{List};
 
@@ -61,17 +95,11 @@ impl Port for Written {
 
     ghost fixed = { λ s. record { setting = record { actor = s.actor; actors = s.actors; ticks = 0; maps = s.maps }; home = tt } };
 
-    fn step(&mut self, alloc: Global, object: ObjectId, op: Op) -> Result<(), Memory> {
+    fn step(&mut self, alloc: Global, object: ObjectId, op: &mut Op) -> Result<(), Memory> {
         let next = self.replies.get(self.taken);
-        let reply = answer(alloc, self.maps.as_slice(), object, &op, next)?;
-        let taken = if asks(&op) { 1 } else { 0 };
-        self.steps.push(Step {
-            actor: self.actor,
-            object,
-            stamp: 0,
-            op,
-            reply,
-        })?;
+        let reply = answer(alloc, self.maps.as_slice(), object, op, next)?;
+        let taken = if asks(op) { 1 } else { 0 };
+        keep_step(&mut self.steps, self.actor, object, op, reply)?;
         self.taken = self.taken.saturating_add(taken);
         Ok(())
     }

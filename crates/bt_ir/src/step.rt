@@ -235,7 +235,8 @@ fn set_on<P: Port>(
     let parts = pop_key(alloc, key.len(), &mut state.stack)?;
     let key = Key::of(parts);
     let object = part(map, &key);
-    tell(alloc, object, Op::Set(key, value), port)?;
+    let mut op = Op::Set(key, value);
+    tell(alloc, object, &mut op, port)?;
     Ok(())
 }
 
@@ -255,7 +256,8 @@ fn delete_on<P: Port>(
     let parts = pop_key(alloc, key.len(), &mut state.stack)?;
     let key = Key::of(parts);
     let object = part(map, &key);
-    tell(alloc, object, Op::Delete(key), port)?;
+    let mut op = Op::Delete(key);
+    tell(alloc, object, &mut op, port)?;
     Ok(())
 }
 
@@ -275,7 +277,8 @@ fn update<P: Port>(
     let again = key.try_copy(alloc)?;
     let object = part(map, &key);
     let old = get(alloc, map, again, port)?;
-    tell(alloc, object, Op::Set(key, joined(op, &old, right)), port)?;
+    let mut set = Op::Set(key, joined(op, &old, right));
+    tell(alloc, object, &mut set, port)?;
     Ok(())
 }
 
@@ -316,7 +319,8 @@ fn step<P: Port>(
     let object = part(map, &key);
     let old = get(alloc, map, again, port)?;
     let new = stepped_value(plus, &old);
-    tell(alloc, object, Op::Set(key, new.copy()), port)?;
+    let mut op = Op::Set(key, new.copy());
+    tell(alloc, object, &mut op, port)?;
     if prefix {
         Ok(new)
     } else {
@@ -360,8 +364,8 @@ fn add_on<P: Port>(
 {
     let value = pop(&mut state.stack);
     let parts = pop_key(alloc, key.len(), &mut state.stack)?;
-    let op = Op::Add(map, Key::of(parts), number_of(&value));
-    tell(alloc, ObjectId::Cpu(actor), op, port)?;
+    let mut op = Op::Add(map, Key::of(parts), number_of(&value));
+    tell(alloc, ObjectId::Cpu(actor), &mut op, port)?;
     Ok(())
 }
 
@@ -380,12 +384,8 @@ fn count_on<P: Port>(
     ensures kept { P.fixed port.new ≡ P.fixed port.old }
 {
     let parts = pop_key(alloc, key.len(), &mut state.stack)?;
-    tell(
-        alloc,
-        ObjectId::Cpu(actor),
-        Op::Add(map, Key::of(parts), 1),
-        port,
-    )?;
+    let mut op = Op::Add(map, Key::of(parts), 1);
+    tell(alloc, ObjectId::Cpu(actor), &mut op, port)?;
     Ok(())
 }
 
@@ -401,12 +401,8 @@ fn printf_on<P: Port>(
     ensures kept { P.fixed port.new ≡ P.fixed port.old }
 {
     let values = Items::of(pop_key(alloc, shapes.len(), &mut state.stack)?);
-    tell(
-        alloc,
-        ObjectId::Out,
-        Op::Emit(Item::Printf { format, values }),
-        port,
-    )?;
+    let mut op = Op::Emit(Item::Printf { format, values });
+    tell(alloc, ObjectId::Out, &mut op, port)?;
     Ok(())
 }
 
@@ -503,13 +499,14 @@ pub fn run_instr<P: Port>(
         Instr::Print { map, top, div } => print(alloc, view, *map, *top, *div, port)?,
         Instr::Clear(map) => sweep(alloc, view, Sweep::Clear, *map, state, port)?,
         Instr::Zero(map) => sweep(alloc, view, Sweep::Zero, *map, state, port)?,
-        Instr::Cut(line) => tell(
-            alloc,
-            ObjectId::Out,
-            Op::Emit(Item::Cut { line: *line }),
-            port,
-        )?,
-        Instr::Stop => tell(alloc, ObjectId::Clock, Op::Stop, port)?,
+        Instr::Cut(line) => {
+            let mut op = Op::Emit(Item::Cut { line: *line });
+            tell(alloc, ObjectId::Out, &mut op, port)?;
+        }
+        Instr::Stop => {
+            let mut op = Op::Stop;
+            tell(alloc, ObjectId::Clock, &mut op, port)?;
+        }
         Instr::Pop => {
             pop(&mut state.stack);
         }

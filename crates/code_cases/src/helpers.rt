@@ -1,5 +1,5 @@
 // What helpers answer and which steps they make, over a port that keeps what it is asked.
-ghost use Rattle.std.specs.Prelude.{◌≡◌, ◌<◌, ◌++◌, ◌∷◌, [], IfOk, IsTrue, OnOk, length};
+ghost use Rattle.std.specs.Prelude.{◌≡◌, ◌<◌, ◌++◌, ◌∷◌, [], IfOk, IsTrue, OnOk, OnErr, length};
 ghost use Rattle.typed_tree.specs.Scope.{is_fine_decl, is_fine_kind};
 ghost use Rattle.code_cases.specs.Quiet.{reply_of, shared_reply, table_reply, clock_reply, value_of_map};
 ghost use Rattle.std.specs.Option.{option_copied};
@@ -20,6 +20,7 @@ use bt_core::value::Value;
 use fmt_text::piece::Piece;
 use helper_abi::helper_port::HelperPort;
 use std::alloc::Global;
+use std::mem;
 use typed_tree::script::Typed;
 
 fn value_of_map(decl: Option<&MapDecl>) -> Value
@@ -75,6 +76,39 @@ fn reply_of(alloc: Global, maps: &[MapDecl], object: ObjectId, op: &Op) -> Reply
     }
 }
 
+// Adds a step of an actor at the end. Its operation is taken out; where there is no memory for the step, the operation and the list are
+// as before.
+fn keep_step(
+    steps: &mut Items<Step>,
+    actor: u32,
+    object: ObjectId,
+    op: &mut Op,
+    reply: Reply,
+) -> Result<(), Memory>
+    ensures ok { OnOk result (steps.new ≡ steps.old ++ record { actor = actor; object = object; stamp = 0; op = op.old; reply = reply } ∷ []) }
+    ensures err { OnErr result (steps.new ≡ steps.old) }
+    ensures whole { OnErr result (op.new ≡ op.old) }
+{
+    let place = steps.len();
+    let room = Step {
+        actor,
+        object,
+        stamp: 0,
+        op: Op::Stop,
+        reply: Reply::Done,
+    };
+    steps.push(room)?;
+    let step = Step {
+        actor,
+        object,
+        stamp: 0,
+        op: mem::replace(op, Op::Stop),
+        reply,
+    };
+    steps.set(place, step);
+    Ok(())
+}
+
 /// A port that keeps its steps, and whose objects hold nothing but what they answer to a `Get`.
 #[derive(Drop)]
 struct Quiet {
@@ -89,15 +123,9 @@ impl Port for Quiet {
 
     ghost fixed = { λ s. record { setting = record { actor = 1; actors = 2; ticks = 0; maps = s.maps }; home = tt } };
 
-    fn step(&mut self, alloc: Global, object: ObjectId, op: Op) -> Result<(), Memory> {
-        let reply = reply_of(alloc, self.maps.as_slice(), object, &op);
-        self.steps.push(Step {
-            actor: 1,
-            object,
-            stamp: 0,
-            op,
-            reply,
-        })
+    fn step(&mut self, alloc: Global, object: ObjectId, op: &mut Op) -> Result<(), Memory> {
+        let reply = reply_of(alloc, self.maps.as_slice(), object, op);
+        keep_step(&mut self.steps, 1, object, op, reply)
     }
 
     fn last(&self) -> &Reply {

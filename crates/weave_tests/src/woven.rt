@@ -44,7 +44,8 @@ fn add_at<R: Wait>(
     ensures turn { IsOf lock.now turn.new × (caller_of turn.new ≡ caller_of turn.old) }
     ensures actor { actor_of trace.new ≡ actor_of trace.old }
 {
-    perform(rt, alloc, lock, turn, trace, add(alloc, number), &Open)
+    let mut op = add(alloc, number);
+    perform(rt, alloc, lock, turn, trace, &mut op, &Open)
 }
 
 // The trace of the first actor: it comes to the table, to the output and back to the table.
@@ -132,8 +133,8 @@ fn fourth(alloc: Global, actor: u32, first: u64) -> Result<StepList, Memory> {
             actor,
             ObjectId::Clock,
             (4 * i).saturating_add(first),
-            Op::Check,
-            Reply::Stopped(false),
+            &mut Op::Check,
+            &mut Reply::Stopped(false),
         );
     }
     Ok(list)

@@ -8,5 +8,5 @@ use Rattle.body_fixtures.proofs.port.WrittenPort.step.Goals as goal
 
 pub returns-clause-replied : goal.returns-clause-replied
 returns-clause-replied c =
-    subst (λ (r : Reply). IsReplyOf c.args.self.now.maps c.args.object c.args.op r) (sym (ap last_reply c.in_ok-push.ensures.ok ∙ last_reply-append c.args.self.now.steps (record { actor = c.args.self.now.actor; object = c.args.object; stamp = 0; op = c.args.op; reply = c.in_ok-reply.reply })))
-    (subst (λ (m : List MapDecl). IsReplyOf m c.args.object c.args.op c.in_ok-reply.reply) c.as_slice.ensures c.in_ok-reply.ensures)
+    subst (λ (r : Reply). IsReplyOf c.args.self.now.maps c.args.object c.args.op.now r) (sym (ap last_reply c.in_ok-keep_step.ensures.ok ∙ last_reply-append c.args.self.now.steps (record { actor = c.args.self.now.actor; object = c.args.object; stamp = 0; op = c.args.op.now; reply = c.in_ok-reply.reply })))
+    (subst (λ (m : List MapDecl). IsReplyOf m c.args.object c.args.op.now c.in_ok-reply.reply) c.as_slice.ensures c.in_ok-reply.ensures)
