@@ -41,7 +41,7 @@ impl<'a, 'b, P: Port> Port for ScriptPort<'a, 'b, P> {
       home = ((P.fixed s.port.now).home, (P.fixed s.port.now).setting.maps, record { ref_ptr = (0, 0); ghost_name = s.port.ghost_name; now = tt });
     } };
 
-    fn step(&mut self, alloc: Global, object: ObjectId, op: Op) -> Result<(), Memory> {
+    fn step(&mut self, alloc: Global, object: ObjectId, op: &mut Op) -> Result<(), Memory> {
         self.port.step(alloc, object, op)
     }
 

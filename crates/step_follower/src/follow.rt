@@ -18,6 +18,7 @@ use bt_core::text::Str64;
 use bt_core::value::Value;
 use std::alloc::Global;
 use std::marker::Model;
+use std::mem;
 
 /// From where and how far a list was followed for an actor, and the steps that were made off it.
 #[derive(Drop)]
@@ -92,37 +93,41 @@ fn empty_value(maps: &[MapDecl], object: ObjectId) -> Reply
     }
 }
 
-/// One step of the actor: the list's next one, whose item it gets, or else one off the list.
-fn take_step(alloc: Global, walk: &mut Walk, object: ObjectId, op: Op) -> Result<(), Memory>
+/// One step of the actor: the list's next one, whose item it gets, or else one off the list. The operation is taken out.
+///
+/// After [`Memory`] no step was made, and the operation is as it was.
+fn take_step(alloc: Global, walk: &mut Walk, object: ObjectId, op: &mut Op) -> Result<(), Memory>
     requires follows { IsFollowing (seen_of walk.old) }
-    requires can { CanStep (setting_of walk.old) object op }
+    requires can { CanStep (setting_of walk.old) object op.old }
     ensures follows { IsFollowing (seen_of walk.new) }
     ensures setting { setting_of walk.new ≡ setting_of walk.old }
     ensures from { walk.new.from ≡ walk.old.from }
     ensures front { front_in (seen_of walk.new) ≡ front_in (seen_of walk.old) }
     ensures blanks { blanks_in (seen_of walk.new) ≡ blanks_in (seen_of walk.old) }
-    ensures made { OnOk result (MakesStep (steps_in (seen_of walk.old)) (steps_in (seen_of walk.new)) walk.old.actor object op) }
-    ensures replied { OnOk result (IsReplyOf walk.old.maps object op (last_reply (steps_in (seen_of walk.new)))) }
+    ensures made { OnOk result (MakesStep (steps_in (seen_of walk.old)) (steps_in (seen_of walk.new)) walk.old.actor object op.old) }
+    ensures replied { OnOk result (IsReplyOf walk.old.maps object op.old (last_reply (steps_in (seen_of walk.new)))) }
     ensures none { OnErr result (steps_in (seen_of walk.new) ≡ steps_in (seen_of walk.old)) }
+    ensures whole { OnErr result (op.new ≡ op.old) }
 {
     if walk.strays.is_empty() {
         let at = skip_others(walk.list.as_slice(), walk.at, walk.actor);
         if at < walk.list.len() {
-            if is_next(&walk.list.as_slice()[at], object, &op) {
+            if is_next(&walk.list.as_slice()[at], object, op) {
                 set_op(&mut walk.list, at, op);
                 walk.at = at + 1;
                 return Ok(());
             }
         }
     }
-    let reply = empty_reply(alloc, walk, object, &op);
-    walk.strays.push(Step {
+    let reply = empty_reply(alloc, walk, object, op);
+    let step = Step {
         actor: walk.actor,
         object,
         stamp: 0,
-        op,
+        op: Op::Stop,
         reply,
-    })
+    };
+    push_with(&mut walk.strays, step, op)
 }
 
 /// Whether a step has this object, and this operation but for its item.
@@ -132,13 +137,26 @@ fn is_next(step: &Step, object: ObjectId, op: &Op) -> bool
     step.object == object && is_same_but_item(&step.op, op)
 }
 
-/// Puts an operation in the place of a step's.
-fn set_op(list: &mut Items<Step>, at: usize, op: Op)
+/// Puts an operation in the place of a step's, and leaves nothing to know of it behind the reference.
+fn set_op(list: &mut Items<Step>, at: usize, op: &mut Op)
     requires { at < length list.old }
-    ensures { (d : MadeStep) → list.new ≡ slice_set list.old at (with_op op (slice_index_or list.old at d)) }
+    ensures { (d : MadeStep) → list.new ≡ slice_set list.old at (with_op op.old (slice_index_or list.old at d)) }
 {
+    let kept = mem::replace(op, Op::Stop);
     let step = &mut list.as_mut_slice()[at];
-    step.op = op;
+    step.op = kept;
+}
+
+/// Adds a step at the end, with an operation in the place of its own. After [`Memory`] the list and the operation are as before.
+fn push_with(list: &mut Items<Step>, step: Step, op: &mut Op) -> Result<(), Memory>
+    ensures ok { OnOk result (list.new ≡ list.old ++ with_op op.old step ∷ []) }
+    ensures err { OnErr result (list.new ≡ list.old) }
+    ensures whole { OnErr result (op.new ≡ op.old) }
+{
+    let at = list.len();
+    list.push(step)?;
+    set_op(list, at, op);
+    Ok(())
 }
 
 /// The reply of the last step.
@@ -178,7 +196,7 @@ impl Port for Follower {
 
     ghost fixed = { λ p. record { setting = p.setting; home = (p.from, front_in p, blanks_in p) } };
 
-    fn step(&mut self, alloc: Global, object: ObjectId, op: Op) -> Result<(), Memory> {
+    fn step(&mut self, alloc: Global, object: ObjectId, op: &mut Op) -> Result<(), Memory> {
         take_step(alloc, &mut self.walk, object, op)
     }
 

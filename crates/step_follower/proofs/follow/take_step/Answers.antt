@@ -19,8 +19,8 @@ returns-then-is_next-clause-blanks c =
     let own = subst (λ (l : List Step). c.skip_others-at.result < length l → (get_or l c.skip_others-at.result d).actor ≡ w.actor) c.as_slice.ensures (c.skip_others-at.ensures.own d) lt in
     let next = c.if-is_next.ensures.0 refl in
     ap (map (blank_of w.actor)) (c.set_op.ensures d)
-    ∙ met_blanks (setting_of w) w.list c.skip_others-at.result w.at c.args.object c.args.op d lt own
-    (subst (λ (s : Step). blank_call (call_of s) ≡ blank_call (record { object = c.args.object; op = c.args.op })) same next)
+    ∙ met_blanks (setting_of w) w.list c.skip_others-at.result w.at c.args.object c.args.op.now d lt own
+    (subst (λ (s : Step). blank_call (call_of s) ≡ blank_call (record { object = c.args.object; op = c.args.op.now })) same next)
 
 pub returns-then-is_next-clause-replied : goal.returns-then-is_next-clause-replied
 returns-then-is_next-clause-replied c =
@@ -32,16 +32,16 @@ returns-then-is_next-clause-replied c =
     let next = c.if-is_next.ensures.0 refl in
     let none : w.strays ≡ [] = c.is_empty.ensures.0 c.if-is_empty.true in
     let one : c.skip_others-at.result + 1 ≡ suc c.skip_others-at.result = omega arith in
-    subst (λ (z : (List Step × ℕ) × List Step). IsReplyOf w.maps c.args.object c.args.op (last_reply (of_actor w.actor (take z.0.1 z.0.0) ++ z.1)))
+    subst (λ (z : (List Step × ℕ) × List Step). IsReplyOf w.maps c.args.object c.args.op.now (last_reply (of_actor w.actor (take z.0.1 z.0.0) ++ z.1)))
     (λ i. ((sym (c.set_op.ensures d) i, sym one i), sym none i))
-    (met_reply (setting_of w) w.list c.skip_others-at.result w.at c.args.object c.args.op d lt own
-    (subst (λ (s : Step). blank_call (call_of s) ≡ blank_call (record { object = c.args.object; op = c.args.op })) same next) c.requires.follows.replies)
+    (met_reply (setting_of w) w.list c.skip_others-at.result w.at c.args.object c.args.op.now d lt own
+    (subst (λ (s : Step). blank_call (call_of s) ≡ blank_call (record { object = c.args.object; op = c.args.op.now })) same next) c.requires.follows.replies)
 
 pub returns-clause-replied : goal.returns-clause-replied
 returns-clause-replied c =
     let w = c.args.walk.now in
-    by_result c.push.result (λ ok.
-    subst (IsReplyOf w.maps c.args.object c.args.op)
+    by_result c.push_with.result (λ ok.
+    subst (IsReplyOf w.maps c.args.object c.args.op.now)
     (sym (ap (λ (l : List Step). last_reply (of_actor w.actor (take w.at w.list) ++ l)) ok
     ∙ ap last_reply (sym (append_assoc (of_actor w.actor (take w.at w.list)) w.strays _)) ∙ last_reply-append (of_actor w.actor (take w.at w.list) ++ w.strays) _))
-    c.empty_reply-reply.ensures) c.push.ensures.ok
+    c.empty_reply-reply.ensures) c.push_with.ensures.ok
