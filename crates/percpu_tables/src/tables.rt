@@ -95,11 +95,12 @@ impl Tables {
     ///
     /// The trace grows by this step, whose reply is of the kind that the operation has; what of it is at any
     /// other object stays, and what of it is at each of the tables is still the turn's own list there, if it
-    /// was so before. The gate is told of the turn while it is held.
+    /// was so before. The gate is told of the turn while it is held. What the step has to keep of the
+    /// operation is taken out of it, so nothing is said of the operation behind a step.
     ///
-    /// After [`Memory`] the trace and all own lists are as before. Where the trace had room for a step,
-    /// [`Memory`] is answered only where the operation is not free after the history that the turn has then
-    /// seen, or where a clock stands at its end.
+    /// After [`Memory`] the trace, all own lists and the operation are as before. Where the trace had room for
+    /// a step, [`Memory`] is answered only where the operation is not free after the history that the turn has
+    /// then seen, or where a clock stands at its end.
     pub fn step<G: Gate, R: Wait>(
         &self,
         rt: &R,
@@ -107,17 +108,18 @@ impl Tables {
         turns: &mut Turns,
         trace: &mut Trace,
         object: ObjectId,
-        op: Op,
+        op: &mut Op,
         gate: &G,
     ) -> Result<(), Memory>
-        requires own { IsTableStep (table_maps self.now) (table_actors self.now) object op }
+        requires own { IsTableStep (table_maps self.now) (table_actors self.now) object op.old }
         requires turns { AreTableTurns self.now turns.old }
         requires actor { turns.old.0 ≡ actor_of trace.old }
         ensures turns { AreTableTurns self.now turns.new × (turns.new.0 ≡ turns.old.0) }
         ensures actor { actor_of trace.new ≡ actor_of trace.old }
-        ensures done { OnOk result (Grows object op trace.old trace.new) }
-        ensures replied { OnOk result (IsReplyOf (table_maps self.now) object op (last_reply (steps_of trace.new))) }
+        ensures done { OnOk result (Grows object op.old trace.old trace.new) }
+        ensures replied { OnOk result (IsReplyOf (table_maps self.now) object op.old (last_reply (steps_of trace.new))) }
         ensures memory { OnErr result (IsSame trace.old trace.new × (map mine turns.new.1 ≡ map mine turns.old.1)) }
+        ensures whole { OnErr result (op.new ≡ op.old) }
 
         // what of the trace is at each object
         ensures own { AreOwn (table_ids self.now) turns.old.1 trace.old → AreOwn (table_ids self.now) turns.new.1 trace.new }
@@ -126,7 +128,7 @@ impl Tables {
         // with room that was reserved
         ensures cause { let law = law_for (λ maps. IsTableOp maps) table_answer (table_actors self.now) (table_maps self.now) in
             HasRoom trace.old → OnErr result
-            (AtObject (IsRefused law IsTableFree (clock_of trace.old) op) (table_ids self.now) object turns.old.1 turns.new.1) }
+            (AtObject (IsRefused law IsTableFree (clock_of trace.old) op.old) (table_ids self.now) object turns.old.1 turns.new.1) }
         ensures room { HasRoom trace.old → OnErr result (HasRoom trace.new) }
     {
         let place = place_of(object);

@@ -15,7 +15,7 @@ use Rattle.percpu_tables.proofs.tables.Tables.step.Goals as goal
 
 pub step-requires-clause-own : goal.step-requires-clause-own
 step-requires-clause-own g c =
-    let set = c.args.self.now.set in let maps = c.args.self.now.maps in let n = actors_of set in let object = c.args.object in let op = c.args.op in let place = c.place_of-place.result in
+    let set = c.args.self.now.set in let maps = c.args.self.now.maps in let n = actors_of set in let object = c.args.object in let op = c.args.op.now in let place = c.place_of-place.result in
     let t = at_table maps n object op place c.requires.own c.place_of-place.ensures in
     let there = id_at (ids_of set) n place object c.args.self.now.ids t.0 t.1 in
     let kind = kind_at (kinds_of cpu_kind set) maps n place c.args.self.now.kinds t.0 in
@@ -26,7 +26,7 @@ step-requires-clause-distinct g c = subst AreDistinct (sym c.args.self.now.ids) 
 
 pub returns-clause-done : goal.returns-clause-done
 returns-clause-done g c =
-    let set = c.args.self.now.set in let maps = c.args.self.now.maps in let n = actors_of set in let object = c.args.object in let op = c.args.op in let place = c.place_of-place.result in
+    let set = c.args.self.now.set in let maps = c.args.self.now.maps in let n = actors_of set in let object = c.args.object in let op = c.args.op.now in let place = c.place_of-place.result in
     let t = at_table maps n object op place c.requires.own c.place_of-place.ensures in
     let there = id_at (ids_of set) n place object c.args.self.now.ids t.0 t.1 in
     let kind = kind_at (kinds_of cpu_kind set) maps n place c.args.self.now.kinds t.0 in
@@ -34,7 +34,7 @@ returns-clause-done g c =
 
 pub returns-clause-replied : goal.returns-clause-replied
 returns-clause-replied g c =
-    let set = c.args.self.now.set in let maps = c.args.self.now.maps in let n = actors_of set in let object = c.args.object in let op = c.args.op in let place = c.place_of-place.result in
+    let set = c.args.self.now.set in let maps = c.args.self.now.maps in let n = actors_of set in let object = c.args.object in let op = c.args.op.now in let place = c.place_of-place.result in
     let t = at_table maps n object op place c.requires.own c.place_of-place.ensures in
     let there = id_at (ids_of set) n place object c.args.self.now.ids t.0 t.1 in
     let kind = kind_at (kinds_of cpu_kind set) maps n place c.args.self.now.kinds t.0 in
@@ -43,7 +43,7 @@ returns-clause-replied g c =
 
 pub returns-clause-elsewhere : goal.returns-clause-elsewhere
 returns-clause-elsewhere g c o other =
-    let set = c.args.self.now.set in let maps = c.args.self.now.maps in let n = actors_of set in let object = c.args.object in let op = c.args.op in let place = c.place_of-place.result in
+    let set = c.args.self.now.set in let maps = c.args.self.now.maps in let n = actors_of set in let object = c.args.object in let op = c.args.op.now in let place = c.place_of-place.result in
     let t = at_table maps n object op place c.requires.own c.place_of-place.ensures in
     let there = id_at (ids_of set) n place object c.args.self.now.ids t.0 t.1 in
     let kind = kind_at (kinds_of cpu_kind set) maps n place c.args.self.now.kinds t.0 in
@@ -51,7 +51,7 @@ returns-clause-elsewhere g c o other =
 
 pub returns-clause-cause : goal.returns-clause-cause
 returns-clause-cause g c room =
-    let set = c.args.self.now.set in let maps = c.args.self.now.maps in let n = actors_of set in let object = c.args.object in let op = c.args.op in let place = c.place_of-place.result in
+    let set = c.args.self.now.set in let maps = c.args.self.now.maps in let n = actors_of set in let object = c.args.object in let op = c.args.op.now in let place = c.place_of-place.result in
     let t = at_table maps n object op place c.requires.own c.place_of-place.ensures in
     let there = id_at (ids_of set) n place object c.args.self.now.ids t.0 t.1 in
     let kind = kind_at (kinds_of cpu_kind set) maps n place c.args.self.now.kinds t.0 in
