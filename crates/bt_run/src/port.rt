@@ -113,7 +113,8 @@ fn make_step(alloc: Global, run: &mut Running, object: ObjectId, op: &mut Op) ->
     let (mut reply, stamp) = take_at(alloc, &mut run.objects, object, &*op, clock)?;
     run.lasts[actor as usize] = stamp;
     run.top = run.top.max(stamp);
-    run.steps.push_reserved(actor, object, stamp, op, &mut reply);
+    run.steps
+        .push_reserved(actor, object, stamp, op, &mut reply);
     Ok(())
 }
 
