@@ -146,8 +146,8 @@ fn each_kind_of_entry_is_written_and_read(rt: HostRuntime) -> Result<(), Fail> {
         let (actor, object, stamp) = place(row);
         let mut list = StepList::new(alloc);
         list.reserve(alloc)?;
-        let mut op = op(alloc, row)?;
-        list.push_reserved(actor, object, stamp, &mut op, &mut Reply::Done);
+        let mut pushed = op(alloc, row)?;
+        list.push_reserved(actor, object, stamp, &mut pushed, &mut Reply::Done);
         let woven = Woven::of(vec![in alloc; list]?)?;
         let bytes = write_account(alloc, &woven, text)?;
         let expected = spelled(alloc, row, text)?;
