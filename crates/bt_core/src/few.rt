@@ -84,7 +84,10 @@ impl<T: PartialEq> PartialEq for Few<T> {
     ghost laws = { lists_per T.laws };
 
     fn eq(&self, other: &Self) -> bool {
-        self.as_slice() == other.as_slice()
+        match (&self.held, &other.held) {
+            (Held::One(mine), Held::One(theirs)) => mine[0] == theirs[0],
+            _ => self.as_slice() == other.as_slice(),
+        }
     }
 }
 
