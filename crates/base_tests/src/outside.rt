@@ -86,7 +86,7 @@ fn written_files_are_read(rt: HostRuntime) -> Result<(), Fail> {
     Ok(())
 }
 
-/// Cuts a file where its first four bytes say, and where its last two do.
+/// Cuts a file where its first four bytes say, which are looked at twice, and where its last two do.
 #[derive(Drop)]
 struct ByItsEnds {
     bytes: u64,
@@ -97,6 +97,9 @@ impl Cutter for ByItsEnds {
         let mut cuts = Vec::new(alloc);
         if let Some(first) = file.u32_at(0) {
             cuts.push(u64::from(first))?;
+        }
+        if let Some(both) = file.u64_at(0) {
+            cuts.push(both % (1 << 32))?;
         }
         if let Some(last) = file.u16_at(self.bytes.saturating_sub(2)) {
             cuts.push(u64::from(last))?;

@@ -16,6 +16,9 @@ pub trait Peek {
 
     /// The number of 32 bits at a place, the lowest byte first, or `None` where the file does not hold it whole.
     fn u32_at(&mut self, at: u64) -> Option<u32>;
+
+    /// The number of 64 bits at a place, the lowest byte first, or `None` where the file does not hold it whole.
+    fn u64_at(&mut self, at: u64) -> Option<u64>;
 }
 
 /// Where a file is cut.

@@ -9,7 +9,7 @@ use std::fs::File;
 use std::os::unix::fs::FileExt;
 
 /// How many bytes are read at once.
-const WINDOW_BYTES: usize = 262_144;
+const WINDOW_BYTES: usize = 32_768;
 
 /// A file of the system, of which so many bytes from a place on are held.
 #[derive(Drop)]
@@ -85,6 +85,13 @@ impl Peek for FileWindow<'_> {
     fn u32_at(&mut self, at: u64) -> Option<u32> {
         match self.place_of(at, 4) {
             Some(start) => Some(LittleEndian::read_u32(&self.bytes[start..])),
+            None => None,
+        }
+    }
+
+    fn u64_at(&mut self, at: u64) -> Option<u64> {
+        match self.place_of(at, 8) {
+            Some(start) => Some(LittleEndian::read_u64(&self.bytes[start..])),
             None => None,
         }
     }

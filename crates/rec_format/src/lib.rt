@@ -4,6 +4,7 @@
 mod check;
 mod entries;
 mod formats;
+mod jumps;
 pub mod laws;
 pub mod made;
 mod number;

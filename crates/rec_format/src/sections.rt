@@ -1,7 +1,8 @@
-// Where the entries of each CPU lie in a recording, by the lengths in it alone.
+// Where the entries of each CPU lie in a recording, by looks at a few places of it, or else by all lengths in it.
 //
 // Nothing is checked and nothing is promised of what is found: it says where a recording is cut to be read side by side, and who reads
 // the parts checks them.
+use crate::jumps::heads_by_looks;
 use bt_core::limits::CPUS;
 use bt_core::memory::Memory;
 use bt_io::parts::{Cutter, Peek};
@@ -10,17 +11,21 @@ use std::alloc::Global;
 /// Bytes of a header.
 const HEADER_BYTES: u64 = 32;
 
-/// Where a header tells the last digit of the version, the number of CPUs and that of formats.
+/// Where a header tells the last digit of the version, the number of CPUs, that of formats, the start and the end.
 const VERSION_AT: u64 = 7;
 
 const CPUS_AT: u64 = 8;
 
 const FORMATS_AT: u64 = 12;
 
-/// Bytes of the head of a CPU, and where it tells how many entries follow.
-const HEAD_BYTES: u64 = 8;
+const START_AT: u64 = 16;
 
-const COUNT_AT: u64 = 4;
+const END_AT: u64 = 24;
+
+/// Bytes of the head of a CPU, and where it tells how many entries follow.
+pub(crate) const HEAD_BYTES: u64 = 8;
+
+pub(crate) const COUNT_AT: u64 = 4;
 
 /// Bytes of an event before its payload, and where the length of that is told.
 pub(crate) const EVENT_BYTES: u64 = 44;
@@ -36,19 +41,26 @@ pub struct BeforeCpus;
 
 impl Cutter for BeforeCpus {
     fn cuts<P: Peek>(&self, alloc: Global, file: &mut P) -> Result<Vec<u64>, Memory> {
-        match heads_at(file) {
-            Some(first) => heads_from(alloc, file, first),
-            None => Ok(Vec::new(alloc)),
+        let Some(heads) = heads_at(file) else {
+            return Ok(Vec::new(alloc));
+        };
+        let places = heads_by_looks(alloc, file, heads)?;
+        if places.len() == heads.cpus as usize {
+            Ok(places)
+        } else {
+            heads_by_lengths(alloc, file, heads)
         }
     }
 }
 
-/// Where the heads of so many CPUs begin, and whether a byte tells the kind of each entry.
+/// Where the heads of so many CPUs begin, whether a byte tells the kind of each entry, and between which times entries lie.
 #[derive(Clone, Copy)]
-struct Heads {
-    at: u64,
-    cpus: u32,
-    marks: bool,
+pub(crate) struct Heads {
+    pub at: u64,
+    pub cpus: u32,
+    pub marks: bool,
+    pub start: u64,
+    pub end: u64,
 }
 
 /// What the header and the lengths of the formats tell, if there are not more CPUs than a recording may have.
@@ -62,6 +74,12 @@ fn heads_at<P: Peek>(file: &mut P) -> Option<Heads> {
     let Some(formats) = file.u32_at(FORMATS_AT) else {
         return None;
     };
+    let Some(start) = file.u64_at(START_AT) else {
+        return None;
+    };
+    let Some(end) = file.u64_at(END_AT) else {
+        return None;
+    };
     if cpus > CPUS {
         return None;
     }
@@ -70,6 +88,8 @@ fn heads_at<P: Peek>(file: &mut P) -> Option<Heads> {
             at,
             cpus,
             marks: version != b'1',
+            start,
+            end,
         }),
         None => None,
     }
@@ -92,7 +112,11 @@ fn behind_formats<P: Peek>(file: &mut P, formats: u32) -> Option<u64> {
 }
 
 /// The places of all heads, up to the first behind whose entries none is found. Behind the last CPU nothing is looked for.
-fn heads_from<P: Peek>(alloc: Global, file: &mut P, heads: Heads) -> Result<Vec<u64>, Memory> {
+fn heads_by_lengths<P: Peek>(
+    alloc: Global,
+    file: &mut P,
+    heads: Heads,
+) -> Result<Vec<u64>, Memory> {
     let mut places = Vec::new(alloc);
     let mut at = heads.at;
     for cpu in 0..heads.cpus {
@@ -109,7 +133,7 @@ fn heads_from<P: Peek>(alloc: Global, file: &mut P, heads: Heads) -> Result<Vec<
 }
 
 /// The place behind the CPU whose head is at a place.
-fn behind_cpu<P: Peek>(file: &mut P, marks: bool, head: u64) -> Option<u64> {
+pub(crate) fn behind_cpu<P: Peek>(file: &mut P, marks: bool, head: u64) -> Option<u64> {
     let Some(count) = file.u32_at(head.saturating_add(COUNT_AT)) else {
         return None;
     };
@@ -124,7 +148,7 @@ fn behind_cpu<P: Peek>(file: &mut P, marks: bool, head: u64) -> Option<u64> {
 }
 
 /// The place behind the entry at a place.
-fn behind_entry<P: Peek>(file: &mut P, marks: bool, at: u64) -> Option<u64> {
+pub(crate) fn behind_entry<P: Peek>(file: &mut P, marks: bool, at: u64) -> Option<u64> {
     if !marks {
         return behind_event(file, at);
     }

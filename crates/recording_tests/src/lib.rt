@@ -7,6 +7,8 @@ mod containers;
 #[cfg(test)]
 mod formats;
 #[cfg(test)]
+mod looks;
+#[cfg(test)]
 mod texts;
 #[cfg(test)]
 mod threads;

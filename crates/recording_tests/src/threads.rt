@@ -210,6 +210,13 @@ impl Peek for Whole<'_> {
             None => None,
         }
     }
+
+    fn u64_at(&mut self, at: u64) -> Option<u64> {
+        match self.from(at, 8) {
+            Some(bytes) => Some(LittleEndian::read_u64(bytes)),
+            None => None,
+        }
+    }
 }
 
 /// A file in parts that begin at these places, as far as they rise and lie within it.
