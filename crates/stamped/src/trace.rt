@@ -75,6 +75,14 @@ impl Trace {
         Ok(())
     }
 
+    /// Asks for room for so many steps more at once, and changes nothing else. Where the system refuses it, room is made step by step.
+    pub fn expect(&mut self, steps: usize)
+        ensures same { IsSame self.old self.new }
+        ensures kept { HasRoom self.old → HasRoom self.new }
+    {
+        self.steps.expect(steps);
+    }
+
     /// The reply of the last step. The trace holds a step.
     pub fn last(&self) -> &Reply
         requires { 0 < length (steps_of self.now) }

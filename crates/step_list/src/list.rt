@@ -162,6 +162,15 @@ impl StepList {
         )
     }
 
+    /// Asks for room for so many steps more at once, so that the list is not moved as it grows. The steps stay, and so does room that was
+    /// there. Where the system refuses it nothing has changed, and room is made step by step.
+    pub fn expect(&mut self, steps: usize)
+        ensures steps { steps_in self.new ≡ steps_in self.old }
+        ensures kept { HasPlace self.old → HasPlace self.new }
+    {
+        let _asked = self.places.reserve_exact(steps);
+    }
+
     /// Adds a step behind all others. There is room for it. What has to be kept of the operation and of the reply is taken out of them, so
     /// nothing is said of what they are then.
     #[inline(always)]
