@@ -45,14 +45,9 @@ fn add_ones<R: Wait>(
     requires { IsOf lock.now turn.old }
 {
     for _ in 0..times {
-        if let Ok((Reply::Value(Value::Int(sum)), stamp)) = lock.call(
-            rt,
-            alloc,
-            turn,
-            0,
-            &add_one(alloc),
-            &Open,
-        ) {
+        let mut reply = Reply::Done;
+        let called = lock.call(rt, alloc, turn, 0, &add_one(alloc), &mut reply, &Open);
+        if let (Ok(stamp), Reply::Value(Value::Int(sum))) = (called, reply) {
             drop(answers.lock(rt).push((stamp, sum)));
         }
     }
@@ -153,11 +148,12 @@ impl SeqObject for Counted {
 
     ghost is_free = { λ _ _ _. ⊥ };
 
-    fn apply(&mut self, _alloc: Global, _op: &Op) -> Result<Reply, Memory> {
+    fn apply(&mut self, _alloc: Global, _op: &Op, reply: &mut Reply) -> Result<(), Memory> {
         if self.taken.fetch_add(1, SeqCst) % 2 == 1 {
             return Err(AllocError.into());
         }
-        Ok(Reply::Done)
+        *reply = Reply::Done;
+        Ok(())
     }
 }
 
@@ -197,7 +193,8 @@ fn stop_often<R: Wait>(
     requires { IsOf lock.now turn }
 {
     for _ in 0..times {
-        drop(lock.call(rt, alloc, &mut turn, 0, &Op::Stop, gate));
+        let mut reply = Reply::Done;
+        drop(lock.call(rt, alloc, &mut turn, 0, &Op::Stop, &mut reply, gate));
     }
 }
 
@@ -255,7 +252,16 @@ impl Gate for UntilTwo {
 // Adds 1 once to a new lock of one caller, and answers the stamp.
 fn add_once<R: Wait>(rt: &R, alloc: Global, gate: &UntilTwo) -> Result<u64, Memory> {
     let (lock, mut turns) = TurnLock::new(alloc, Tally::new(), ObjectId::Out, 1)?;
-    let (_reply, stamp) = lock.call(rt, alloc, &mut turns[0], 0, &add_one(alloc), gate)?;
+    let mut reply = Reply::Done;
+    let stamp = lock.call(
+        rt,
+        alloc,
+        &mut turns[0],
+        0,
+        &add_one(alloc),
+        &mut reply,
+        gate,
+    )?;
     Ok(stamp)
 }
 

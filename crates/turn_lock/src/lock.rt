@@ -109,22 +109,23 @@ impl<O: SeqObject> TurnLock<O> {
         caller: u32,
         floor: u64,
         op: &Op,
-    ) -> Result<(Reply, u64), Memory>
+        reply: &mut Reply,
+    ) -> Result<u64, Memory>
         requires table { seat.old.table_id ≡ table_of self.now }
         requires own { O.is_own (kind_of O.kind self.now) op.now }
         requires held { (h : List Entry) × (d : Desk O) × (seat.old.me.0.stage ≡ Holds h) × (seat.old.me.1 ≡ (0, Some d) ∷ []) ×
             Finds (law_of O.kind O.is_own O.reply_after self.now) (fits_of O.kind O.stands_for self.now) d caller h }
         ensures table { seat.new.table_id ≡ seat.old.table_id }
         ensures view { seat.new.me.0 ≡ seat.old.me.0 }
-        ensures done { IfOk result (λ r. (h : List Entry) → seat.old.me.0.stage ≡ Holds h →
+        ensures done { IfOk result (λ stamp. (h : List Entry) → seat.old.me.0.stage ≡ Holds h →
             Bears (law_of O.kind O.is_own O.reply_after self.now) (fits_of O.kind O.stands_for self.now) seat.new.me.1
-            (h ++ entry caller floor r.1 op.now r.0 ∷ [])) }
+            (h ++ entry caller floor stamp op.now reply.new ∷ [])) }
         ensures memory { OnErr result ((h : List Entry) → seat.old.me.0.stage ≡ Holds h →
             Bears (law_of O.kind O.is_own O.reply_after self.now) (fits_of O.kind O.stands_for self.now) seat.new.me.1 h ×
             MayRefuse (O.is_free (kind_of O.kind self.now)) h floor op.now) }
     {
         match seat.slot_mut(&self.table.shared, 0) {
-            Some(desk) => desk.serve(alloc, floor, op),
+            Some(desk) => desk.serve(alloc, floor, op, reply),
             None => unreachable!(),
         }
     }
@@ -188,24 +189,25 @@ impl<O: SeqObject> TurnLock<O> {
         caller: u32,
         floor: u64,
         op: &Op,
-    ) -> Result<(Reply, u64), Memory>
+        reply: &mut Reply,
+    ) -> Result<u64, Memory>
         requires table { seat.old.table_id ≡ table_of self.now }
         requires own { O.is_own (kind_of O.kind self.now) op.now }
         requires view { (seat.old.me.0.live ≡ true) × (seat.old.me.0.caller ≡ caller) }
         requires held { (h : List Entry) × (d : Desk O) × (seat.old.me.0.stage ≡ Holds h) × (seat.old.me.1 ≡ (0, Some d) ∷ []) ×
             Finds (law_of O.kind O.is_own O.reply_after self.now) (fits_of O.kind O.stands_for self.now) d caller h }
         ensures table { seat.new.table_id ≡ seat.old.table_id }
-        ensures done { IfOk result (λ r. (h : List Entry) → seat.old.me.0.stage ≡ Holds h →
-            (seat.new.me ≡ (after (entry caller floor r.1 op.now r.0 ∷ []) seat.old.me.0 h, [])) ×
-            IsLegal (law_of O.kind O.is_own O.reply_after self.now) (h ++ entry caller floor r.1 op.now r.0 ∷ [])) }
+        ensures done { IfOk result (λ stamp. (h : List Entry) → seat.old.me.0.stage ≡ Holds h →
+            (seat.new.me ≡ (after (entry caller floor stamp op.now reply.new ∷ []) seat.old.me.0 h, [])) ×
+            IsLegal (law_of O.kind O.is_own O.reply_after self.now) (h ++ entry caller floor stamp op.now reply.new ∷ [])) }
         ensures memory { OnErr result ((h : List Entry) → seat.old.me.0.stage ≡ Holds h →
             (seat.new.me ≡ (after [] seat.old.me.0 h, [])) × IsLegal (law_of O.kind O.is_own O.reply_after self.now) h ×
             MayRefuse (O.is_free (kind_of O.kind self.now)) h floor op.now) }
     {
-        match self.work(alloc, seat, caller, floor, op) {
-            Ok((reply, stamp)) => {
-                self.pass_on::<Brand>(seat, caller, floor, stamp, op, &reply);
-                Ok((reply, stamp))
+        match self.work(alloc, seat, caller, floor, op, reply) {
+            Ok(stamp) => {
+                self.pass_on::<Brand>(seat, caller, floor, stamp, op, &*reply);
+                Ok(stamp)
             }
             Err(memory) => {
                 self.give_up(seat);
@@ -241,26 +243,27 @@ impl<O: SeqObject> TurnLock<O> {
         caller: u32,
         floor: u64,
         op: &Op,
+        reply: &mut Reply,
         gate: &G,
-    ) -> Result<(Reply, u64), Memory>
+    ) -> Result<u64, Memory>
         requires table { seat.old.table_id ≡ table_of self.now }
         requires own { O.is_own (kind_of O.kind self.now) op.now }
         requires view { (seat.old.me.0.live ≡ true) × (seat.old.me.0.stage ≡ Idle) × (seat.old.me.0.caller ≡ caller) × (seat.old.me.1 ≡ []) }
         ensures table { seat.new.table_id ≡ seat.old.table_id }
         ensures view { (seat.new.me.0.live ≡ true) × (seat.new.me.0.stage ≡ Idle) × (seat.new.me.0.caller ≡ caller) × (seat.new.me.1 ≡ []) }
-        ensures done { IfOk result (λ r.
+        ensures done { IfOk result (λ stamp.
             Gains (law_of O.kind O.is_own O.reply_after self.now) caller seat.old.me.0 seat.new.me.0
-            (entry caller floor r.1 op.now r.0)) }
+            (entry caller floor stamp op.now reply.new)) }
         ensures memory { OnErr result (Stays (law_of O.kind O.is_own O.reply_after self.now) caller seat.old.me.0 seat.new.me.0) }
         ensures cause { OnErr result (MayRefuse (O.is_free (kind_of O.kind self.now)) seat.new.me.0.seen floor op.now) }
     {
         self.wait_turn(rt, seat);
         gate.held(rt, caller, self.id);
-        self.serve(alloc, seat, caller, floor, op)
+        self.serve(alloc, seat, caller, floor, op, reply)
     }
 
-    /// Performs one operation when the caller's turn comes, and answers the object's reply and the
-    /// call's stamp. `turn` is one of this lock's, and the operation one of the object's own.
+    /// Performs one operation when the caller's turn comes, writes the object's reply over what is there, and
+    /// answers the call's stamp. `turn` is one of this lock's, and the operation one of the object's own.
     ///
     /// The stamp is one more than the greater of `floor` and the stamp before it in the history. The
     /// turn's own list grows by this call, and the history that it has seen then ends with it.
@@ -268,7 +271,7 @@ impl<O: SeqObject> TurnLock<O> {
     ///
     /// [`Memory`] is answered only where the operation is not free after the history, or where
     /// `floor` or the last stamp of the history is 2^64 - 1. The history and the turn's own list are
-    /// then as before.
+    /// then as before, and nothing is said of the reply.
     pub fn call<G: Gate, R: Wait>(
         &self,
         rt: &R,
@@ -276,21 +279,22 @@ impl<O: SeqObject> TurnLock<O> {
         turn: &mut Turn,
         floor: u64,
         op: &Op,
+        reply: &mut Reply,
         gate: &G,
-    ) -> Result<(Reply, u64), Memory>
+    ) -> Result<u64, Memory>
         requires turn { IsOf self.now turn.old }
         requires own { O.is_own (kind_of O.kind self.now) op.now }
         ensures turn { IsOf self.now turn.new × (caller_of turn.new ≡ caller_of turn.old) }
-        ensures done { IfOk result (λ r.
+        ensures done { IfOk result (λ stamp.
             Calls (law_of O.kind O.is_own O.reply_after self.now) turn.old turn.new
-            (entry (caller_of turn.old) floor r.1 op.now r.0)) }
-        ensures stamp { IfOk result (λ r. (floor < r.1) × Each (λ e. e.stamp < r.1) (seen turn.old)) }
+            (entry (caller_of turn.old) floor stamp op.now reply.new)) }
+        ensures stamp { IfOk result (λ stamp. (floor < stamp) × Each (λ e. e.stamp < stamp) (seen turn.old)) }
         ensures memory { OnErr result (Looks (law_of O.kind O.is_own O.reply_after self.now) turn.old turn.new) }
         ensures cause { OnErr result
             (MayRefuse (O.is_free (kind_of O.kind self.now)) (seen turn.new) floor op.now) }
     {
         let mut seat: Place<O> = mem::replace(&mut turn.badge, Badge::blank()).into_seat();
-        let outcome = self.run(rt, alloc, &mut seat, turn.caller, floor, op, gate);
+        let outcome = self.run(rt, alloc, &mut seat, turn.caller, floor, op, reply, gate);
         turn.badge = seat.into_badge();
         outcome
     }

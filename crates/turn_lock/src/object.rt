@@ -1,5 +1,5 @@
 // What a lock can guard.
-ghost use Rattle.std.specs.Prelude.{◌≡◌, List, [], ◌∷◌, ◌++◌, IfOk, OnOk, OnErr, IsOk};
+ghost use Rattle.std.specs.Prelude.{◌≡◌, List, [], ◌∷◌, ◌++◌, OnOk, OnErr, IsOk};
 ghost use Rattle.bt_core.specs.declared.step.Op.{Op};
 ghost use Rattle.bt_core.specs.declared.step.Reply.{Reply};
 
@@ -28,14 +28,14 @@ pub trait SeqObject: Drop {
     /// The operations that take no memory after these earlier ones.
     ghost is_free: { Self.Kind → List Op → Op → Type 0 };
 
-    /// Takes one operation, which is one of the object's own, and answers its reply.
+    /// Takes one operation, which is one of the object's own, and writes its reply over what is there.
     ///
-    /// After [`Memory`] it is as if the operation had not been asked. A free operation never
-    /// answers [`Memory`].
-    fn apply(&mut self, alloc: Global, op: &Op) -> Result<Reply, Memory>
+    /// After [`Memory`] it is as if the operation had not been asked, and nothing is said of what is
+    /// there. A free operation never answers [`Memory`].
+    fn apply(&mut self, alloc: Global, op: &Op, reply: &mut Reply) -> Result<(), Memory>
         requires { is_own (kind self.old) op.now }
         ensures kind { kind self.new ≡ kind self.old }
-        ensures replies { IfOk result (λ reply. (before : List Op) → stands_for self.old before → reply ≡ reply_after (kind self.old) before op.now) }
+        ensures replies { OnOk result ((before : List Op) → stands_for self.old before → reply.new ≡ reply_after (kind self.old) before op.now) }
         ensures taken { OnOk result ((before : List Op) → stands_for self.old before → stands_for self.new (before ++ op.now ∷ [])) }
         ensures memory { OnErr result ((before : List Op) → stands_for self.old before → stands_for self.new before) }
         ensures free { (before : List Op) → stands_for self.old before → is_free (kind self.old) before op.now → IsOk result };

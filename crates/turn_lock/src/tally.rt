@@ -49,9 +49,10 @@ impl SeqObject for Tally {
 
     ghost is_free = { λ _ _ _. Unit {0} };
 
-    fn apply(&mut self, _alloc: Global, op: &Op) -> Result<Reply, Memory> {
+    fn apply(&mut self, _alloc: Global, op: &Op, reply: &mut Reply) -> Result<(), Memory> {
         self.sum = self.sum.wrapping_add(number(op));
-        Ok(Reply::Value(Value::Int(self.sum)))
+        *reply = Reply::Value(Value::Int(self.sum));
+        Ok(())
     }
 }
 
@@ -92,11 +93,11 @@ impl SeqObject for Balky {
 
     ghost is_free = { λ _ _ _. ⊥ };
 
-    fn apply(&mut self, alloc: Global, op: &Op) -> Result<Reply, Memory> {
+    fn apply(&mut self, alloc: Global, op: &Op, reply: &mut Reply) -> Result<(), Memory> {
         self.calls = self.calls.saturating_add(1);
         if self.refused.contains(&self.calls) {
             return Err(AllocError.into());
         }
-        self.tally.apply(alloc, op)
+        self.tally.apply(alloc, op, reply)
     }
 }

@@ -13,7 +13,7 @@ returns-clause-stamp g c =
     let was : c.into_seat-seat.result.me.0.seen ≡ seen c.args.turn.now =
     sym (ap (λ b. (view_in b.views).seen) (sym c.replace.ensures.value) ∙ ap (λ (vs : List View). (view_in vs).seen) c.into_seat-seat.ensures.2) in
     ok_weaken _ _ c.run-outcome.result (λ r gains. let t = above _ _ _ _ _ gains in
-    (t.0, subst (Each (λ (e : Entry). e.stamp < r.1)) was t.1)) c.run-outcome.ensures.done
+    (t.0, subst (Each (λ (e : Entry). e.stamp < r)) was t.1)) c.run-outcome.ensures.done
 
 pub returns-clause-cause : goal.returns-clause-cause
 returns-clause-cause g c = let is : c.run-outcome.new.seat.me.0 ≡ view_in c.into_badge.result.views = ap view_in (sym c.into_badge.ensures.2) in
@@ -27,7 +27,7 @@ returns-clause-done g c = let was : c.into_seat-seat.result.me.0 ≡ view_in c.a
     let is : c.run-outcome.new.seat.me.0 ≡ view_in c.into_badge.result.views = ap view_in (sym c.into_badge.ensures.2) in
     ok_weaken _ _ c.run-outcome.result (λ r gains. subst (λ (z : View × View). Gains
     (law g.O.SeqObject.kind g.O.SeqObject.is_own g.O.SeqObject.reply_after c.args.self.now.table.shared.key) c.args.turn.now.caller z.0 z.1
-    (entry c.args.turn.now.caller c.args.floor r.1 c.args.op.now r.0)) (λ i. (was i, is i)) gains) c.run-outcome.ensures.done
+    (entry c.args.turn.now.caller c.args.floor r c.args.op.now c.run-outcome.new.reply)) (λ i. (was i, is i)) gains) c.run-outcome.ensures.done
 
 pub returns-clause-memory : goal.returns-clause-memory
 returns-clause-memory g c = let was : c.into_seat-seat.result.me.0 ≡ view_in c.args.turn.now.badge.views

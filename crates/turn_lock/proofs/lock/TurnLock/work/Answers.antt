@@ -22,7 +22,7 @@ returns-clause-done g c = let held = c.requires.held in let about = c.args.self.
     let u = t (ops h) ok.object.1 in (
       c.serve.new.self,
       (λ i. (0, Some c.serve.new.self) ∷ rest (held.3 i)),
-      adds l F c.in-Some.desk c.serve.new.self h (entry c.args.caller c.args.floor r.1 c.args.op.now r.0) ok held.4.1 c.requires.own
+      adds l F c.in-Some.desk c.serve.new.self h (entry c.args.caller c.args.floor r c.args.op.now c.serve.new.reply) ok held.4.1 c.requires.own
           (u.0 ∙ ap (λ k. g.O.SeqObject.reply_after k (ops h) c.args.op.now) ok.object.0) s.0 s.1 (c.serve.ensures.kind ∙ ok.object.0, u.1),
     )) c.serve.ensures.stamp c.serve.ensures.done
 
