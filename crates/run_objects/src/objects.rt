@@ -29,8 +29,8 @@ pub struct Objects {
     pub out: OwnObject<OutLog>,
 }
 
-/// Takes an operation at one of the objects, by an actor with this clock, and tells its reply and its stamp. After [`Memory`] it
-/// is as if the operation had not been asked.
+/// Takes an operation at one of the objects, by an actor with this clock, writes its reply over what is there, and tells its
+/// stamp. After [`Memory`] it is as if the operation had not been asked, and nothing is said of the reply.
 #[inline(always)]
 pub fn take_at(
     alloc: Global,
@@ -38,20 +38,23 @@ pub fn take_at(
     object: ObjectId,
     op: &Op,
     clock: u64,
-) -> Result<(Reply, u64), Memory>
+    reply: &mut Reply,
+) -> Result<u64, Memory>
     requires stand { (w : World) × (steps : List Step) × Stand w steps objects.old × IsOwn w object op.now }
-    ensures taken { IfOk result (λ r. (w : World) (steps : List Step) → Stand w steps objects.old → IsOwn w object op.now →
-        IsAnswer w steps objects.new object op.now clock r) }
+    ensures taken { IfOk result (λ stamp. (w : World) (steps : List Step) → Stand w steps objects.old → IsOwn w object op.now →
+        IsAnswer w steps objects.new object op.now clock (reply.new, stamp)) }
     ensures memory { OnErr result ((w : World) (steps : List Step) → Stand w steps objects.old → IsOwn w object op.now →
         Stand w steps objects.new) }
 {
     match object {
         ObjectId::Shared { map, part } => {
             let held = &mut objects.shared[map.0 as usize];
-            take_in(alloc, &mut held.parts, part as usize, op, clock)
+            take_in(alloc, &mut held.parts, part as usize, op, clock, reply)
         }
-        ObjectId::Cpu(actor) => take_in(alloc, &mut objects.tables, actor as usize, op, clock),
-        ObjectId::Clock => objects.ticks.take(alloc, op, clock),
-        ObjectId::Out => objects.out.take(alloc, op, clock),
+        ObjectId::Cpu(actor) => {
+            take_in(alloc, &mut objects.tables, actor as usize, op, clock, reply)
+        }
+        ObjectId::Clock => objects.ticks.take(alloc, op, clock, reply),
+        ObjectId::Out => objects.out.take(alloc, op, clock, reply),
     }
 }

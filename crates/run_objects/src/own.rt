@@ -17,17 +17,24 @@ pub struct OwnObject<O> {
 }
 
 impl<O: SeqObject> OwnObject<O> {
-    /// Takes one operation, and tells its reply and its stamp, which is one more than the greater of both clocks: the
-    /// object's and the actor's. After [`Memory`] it is as if the operation had not been asked.
+    /// Takes one operation, writes its reply over what is there, and tells its stamp, which is one more than the greater of
+    /// both clocks: the object's and the actor's. After [`Memory`] it is as if the operation had not been asked, and nothing is
+    /// said of the reply.
     #[inline(always)]
-    pub fn take(&mut self, alloc: Global, op: &Op, clock: u64) -> Result<(Reply, u64), Memory>
+    pub fn take(
+        &mut self,
+        alloc: Global,
+        op: &Op,
+        clock: u64,
+        reply: &mut Reply,
+    ) -> Result<u64, Memory>
         requires { O.is_own (O.kind self.old.object) op.now }
         ensures kind { O.kind self.new.object ≡ O.kind self.old.object }
-        ensures replies { IfOk result (λ r. (before : List Op) → O.stands_for self.old.object before →
-            r.0 ≡ O.reply_after (O.kind self.old.object) before op.now) }
+        ensures replies { OnOk result ((before : List Op) → O.stands_for self.old.object before →
+            reply.new ≡ O.reply_after (O.kind self.old.object) before op.now) }
         ensures taken { OnOk result ((before : List Op) → O.stands_for self.old.object before → O.stands_for self.new.object (before ++ op.now ∷ [])) }
-        ensures stamp { IfOk result (λ r. r.1 ≡ suc (max clock self.old.clock)) }
-        ensures clock { IfOk result (λ r. self.new.clock ≡ r.1) }
+        ensures stamp { IfOk result (λ stamp. stamp ≡ suc (max clock self.old.clock)) }
+        ensures clock { IfOk result (λ stamp. self.new.clock ≡ stamp) }
         ensures memory { OnErr result ((before : List Op) → O.stands_for self.old.object before → O.stands_for self.new.object before) }
         ensures same { OnErr result (self.new.clock ≡ self.old.clock) }
         // A free operation is refused only where its stamp would not fit.
@@ -35,9 +42,9 @@ impl<O: SeqObject> OwnObject<O> {
             2 ^ 64 ≤ suc (max clock self.old.clock)) }
     {
         let stamp = fitting(self.clock.max(clock).checked_add(1))?;
-        let reply = self.object.apply(alloc, op)?;
+        self.object.apply(alloc, op, reply)?;
         self.clock = stamp;
-        Ok((reply, stamp))
+        Ok(stamp)
     }
 }
 
@@ -49,10 +56,11 @@ pub fn take_in<O: SeqObject>(
     place: usize,
     op: &Op,
     clock: u64,
-) -> Result<(Reply, u64), Memory>
+    reply: &mut Reply,
+) -> Result<u64, Memory>
     requires there { place < length list.old.items }
     requires own { (d : OwnObject O) → O.is_own (O.kind (slice_index_or list.old.items place d).object) op.now }
-    ensures { TookAt O.kind O.stands_for O.reply_after op.now clock place list.old.items list.new.items result }
+    ensures { TookAt O.kind O.stands_for O.reply_after op.now clock place list.old.items list.new.items reply.new result }
 {
-    list[place].take(alloc, op, clock)
+    list[place].take(alloc, op, clock, reply)
 }
