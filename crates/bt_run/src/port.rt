@@ -111,7 +111,8 @@ fn make_step(alloc: Global, run: &mut Running, object: ObjectId, op: &mut Op) ->
     run.steps.reserve(alloc)?;
     let actor = run.turn.actor;
     let clock = run.lasts[actor as usize].max(run.turn.floor);
-    let (mut reply, stamp) = take_at(alloc, &mut run.objects, object, &*op, clock)?;
+    let mut reply = Reply::Done;
+    let stamp = take_at(alloc, &mut run.objects, object, &*op, clock, &mut reply)?;
     run.lasts[actor as usize] = stamp;
     run.top = run.top.max(stamp);
     run.steps

@@ -91,7 +91,15 @@ fn take_next(alloc: Global, state: &mut Replaying) -> Result<bool, Memory>
     let actor = entry.actor;
     let told = entry.stamp;
     let clock = state.clocks.clock_of(state.cpus, actor);
-    let (reply, stamp) = take_at(alloc, &mut state.objects, entry.object, &entry.op, clock)?;
+    let mut reply = Reply::Done;
+    let stamp = take_at(
+        alloc,
+        &mut state.objects,
+        entry.object,
+        &entry.op,
+        clock,
+        &mut reply,
+    )?;
     if stamp != told {
         return Ok(false);
     }

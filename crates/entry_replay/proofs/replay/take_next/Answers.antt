@@ -17,18 +17,18 @@ returns-then-stamp-told-clause-wrong c = λ d right.
     let e = c.index-as_slice-state.result in
     let same : e ≡ get_or r.entries r.at d = c.index-as_slice-state.is ∙ ap (λ l. get_or l r.at e) c.as_slice.ensures ∙ get_or_default r.entries r.at e d c.requires.more in
     let own = subst (λ (s : Step). IsOwn (world_of r) s.object s.op) (sym same) (can_be_made r is c.requires.more d).own in
-    let answer = subst (λ (s : Step). IsAnswer (world_of r) (taken r) c.take_at.new.objects s.object s.op c.clock_of-clock.result (c.in_ok-reply.reply, c.in_ok-reply.stamp)) same
-    (c.in_ok-reply.ensures.taken (world_of r) (taken r) is.stand own) in
+    let answer = subst (λ (s : Step). IsAnswer (world_of r) (taken r) c.take_at.new.objects s.object s.op c.clock_of-clock.result (c.take_at.new.reply, c.in_ok-stamp.stamp)) same
+    (c.in_ok-stamp.ensures.taken (world_of r) (taken r) is.stand own) in
     let clock = c.clock_of-clock.ensures (taken r) is.clocks ∙ ap (λ (s : Step). clock_after r.cpus (taken r) s.actor) same in
-    let other : c.in_ok-reply.stamp ≢ e.stamp = search rules in
-    wrong_stamp r is c.requires.more d c.take_at.new.objects c.clock_of-clock.result (c.in_ok-reply.reply, c.in_ok-reply.stamp) clock answer
+    let other : c.in_ok-stamp.stamp ≢ e.stamp = search rules in
+    wrong_stamp r is c.requires.more d c.take_at.new.objects c.clock_of-clock.result (c.take_at.new.reply, c.in_ok-stamp.stamp) clock answer
     (λ q. other (q ∙ ap (λ (s : Step). s.stamp) (sym same)))
 
 pub returns-clause-told : goal.returns-clause-told
 returns-clause-told c =
     let r = c.args.state.now in
     let e = c.index-as_slice-state.result in
-    ap (map blank) (c.set_reply.ensures e) ∙ map-set_same blank r.entries r.at (with_reply c.in_ok-reply.reply (get_or r.entries r.at e)) e refl
+    ap (map blank) (c.set_reply.ensures e) ∙ map-set_same blank r.entries r.at (with_reply c.take_at.new.reply (get_or r.entries r.at e)) e refl
 
 pub returns-clause-replaying : goal.returns-clause-replaying
 returns-clause-replaying c = λ right.
@@ -37,11 +37,11 @@ returns-clause-replaying c = λ right.
     let e = c.index-as_slice-state.result in
     let same : e ≡ get_or r.entries r.at e = c.index-as_slice-state.is ∙ ap (λ l. get_or l r.at e) c.as_slice.ensures in
     let own = subst (λ (s : Step). IsOwn (world_of r) s.object s.op) (sym same) (can_be_made r is c.requires.more e).own in
-    let answer = subst (λ (s : Step). IsAnswer (world_of r) (taken r) c.take_at.new.objects s.object s.op c.clock_of-clock.result (c.in_ok-reply.reply, c.in_ok-reply.stamp)) same
-    (c.in_ok-reply.ensures.taken (world_of r) (taken r) is.stand own) in
+    let answer = subst (λ (s : Step). IsAnswer (world_of r) (taken r) c.take_at.new.objects s.object s.op c.clock_of-clock.result (c.take_at.new.reply, c.in_ok-stamp.stamp)) same
+    (c.in_ok-stamp.ensures.taken (world_of r) (taken r) is.stand own) in
     let clock = c.clock_of-clock.ensures (taken r) is.clocks ∙ ap (λ (s : Step). clock_after r.cpus (taken r) s.actor) same in
-    let one : c.in_ok-reply.stamp ≡ e.stamp = search rules in
-    one_more r is c.requires.more e c.take_at.new.objects c.clock_of-clock.result (c.in_ok-reply.reply, c.in_ok-reply.stamp) clock answer
+    let one : c.in_ok-stamp.stamp ≡ e.stamp = search rules in
+    one_more r is c.requires.more e c.take_at.new.objects c.clock_of-clock.result (c.take_at.new.reply, c.in_ok-stamp.stamp) clock answer
     (one ∙ ap (λ (s : Step). s.stamp) same) _ refl refl refl (c.set_reply.ensures e) refl
     (λ s by stamp. c.note.ensures.told r.cpus (taken r) s (by ∙ ap (λ (z : Step). z.actor) (sym same)) stamp is.clocks)
     (c.if-is_out_of_order.ensures.right e refl)
