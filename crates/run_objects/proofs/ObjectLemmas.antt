@@ -77,7 +77,8 @@ module _ {O K : Type 0} (kind_of : O → K) (holds : O → List Op → Type 0) (
   all_else s id list e all k d lt = own_else s (id k) (get_or list k d) (e k) (all k d lt)
 
   module _ (op : Op) (floor : ℕ) (old new : OwnObject O) (object : ObjectId) (h : OwnStands kind_of holds fits steps object old) where
-    pub took_reply : (r : Reply × ℕ) → Took kind_of holds replies_to op floor old new r.0 (Ok r.1) → r.0 ≡ replies_to (kind_of old.object) (operations (on_object object steps)) op
+    pub took_reply : (r : Reply × ℕ) → Took kind_of holds replies_to op floor old new r.0 (Ok r.1)
+        → r.0 ≡ replies_to (kind_of old.object) (operations (on_object object steps)) op
     took_reply r t = t.replies (operations (on_object object steps)) h.stands.stood
 
     pub took_stamp : (r : Reply × ℕ) → Took kind_of holds replies_to op floor old new r.0 (Ok r.1) → r.1 ≡ suc (max floor (greatest (on_object object steps)))
@@ -106,7 +107,8 @@ module _ {O K : Type 0} (kind_of : O → K) (holds : O → List Op → Type 0) (
     pub one_stands : (one : OwnObject O) → slice_index_or old place one ≡ one → OwnStands kind_of holds fits steps (id place) one
     one_stands one e = subst (OwnStands kind_of holds fits steps (id place)) e (all place one lt)
 
-    pub all_took : (apart : (a b : ℕ) → a ≢ b → is_same_object (id a) (id b) ≡ false) (r : Reply × ℕ) (actor : ℕ) → TookAt kind_of holds replies_to op floor place old new r.0 (Ok r.1)
+    pub all_took : (apart : (a b : ℕ) → a ≢ b → is_same_object (id a) (id b) ≡ false) (r : Reply × ℕ) (actor : ℕ)
+        → TookAt kind_of holds replies_to op floor place old new r.0 (Ok r.1)
         → AllStand kind_of holds fits (steps ++ step_of actor (id place) op r ∷ []) id new
     all_took apart r actor t = let s = step_of actor (id place) op r in
         subst (AllStand kind_of holds fits (steps ++ s ∷ []) id) (sym t.now)
@@ -114,7 +116,8 @@ module _ {O K : Type 0} (kind_of : O → K) (holds : O → List Op → Type 0) (
         (took_stands op floor t.one t.other (id place) (one_stands t.one t.was) r actor t.took)
         (λ k d ne below. own_else s (id k) (get_or old k d) (apart place k ne) (all k d below)))
 
-    pub all_kept : (reply : Reply) (m : Memory) → TookAt kind_of holds replies_to op floor place old new reply (Err m) → AllStand kind_of holds fits steps id new
+    pub all_kept : (reply : Reply) (m : Memory) → TookAt kind_of holds replies_to op floor place old new reply (Err m)
+        → AllStand kind_of holds fits steps id new
     all_kept reply m t = subst (AllStand kind_of holds fits steps id) (sym t.now)
         (at_place (λ k own. OwnStands kind_of holds fits steps (id k) own) old place t.other lt
         (took_kept op floor t.one t.other (id place) (one_stands t.one t.was) reply m t.took)
@@ -169,10 +172,12 @@ module _ (objects : Objects) (op : Op) (floor : ℕ) where
     abbrev with_ticks : Objects
     with_ticks = record { shared = objects.shared; tables = objects.tables; ticks = new; out = objects.out }
 
-    pub ticks_answer : (reply : Reply) (result : Result ℕ Memory) → Took clock_kind ClockStands (λ of. clock_answer of.cpus) op floor objects.ticks new reply result
+    pub ticks_answer : (reply : Reply) (result : Result ℕ Memory)
+        → Took clock_kind ClockStands (λ of. clock_answer of.cpus) op floor objects.ticks new reply result
         → Answers objects object op floor reply result with_ticks
     ticks_answer reply (Err m) t = tt
-    ticks_answer reply (Ok stamp) t = subst (λ o. Answers objects o op floor reply (Ok stamp) with_ticks) (sym is) (λ w steps st own. let r : Reply × ℕ = (reply, stamp) in
+    ticks_answer reply (Ok stamp) t =
+        subst (λ o. Answers objects o op floor reply (Ok stamp) with_ticks) (sym is) (λ w steps st own. let r : Reply × ℕ = (reply, stamp) in
         let fits = λ (of : ClockKind). of ≡ record { cpus = w.cpus; ticks = w.ticks } in
         record {
           reply = took_reply clock_kind ClockStands (λ of. clock_answer of.cpus) fits steps op floor objects.ticks new Clock st.ticks r t
@@ -188,7 +193,8 @@ module _ (objects : Objects) (op : Op) (floor : ℕ) where
           };
         })
 
-    pub ticks_kept : (reply : Reply) (result : Result ℕ Memory) → Took clock_kind ClockStands (λ of. clock_answer of.cpus) op floor objects.ticks new reply result
+    pub ticks_kept : (reply : Reply) (result : Result ℕ Memory)
+        → Took clock_kind ClockStands (λ of. clock_answer of.cpus) op floor objects.ticks new reply result
         → Keeps objects object op result with_ticks
     ticks_kept reply (Ok stamp) t = tt
     ticks_kept reply (Err m) t = λ w steps st own. record {
@@ -196,7 +202,8 @@ module _ (objects : Objects) (op : Op) (floor : ℕ) where
       shared = st.shared;
       table_count = st.table_count;
       tables = st.tables;
-      ticks = took_kept clock_kind ClockStands (λ of. clock_answer of.cpus) (λ (of : ClockKind). of ≡ record { cpus = w.cpus; ticks = w.ticks }) steps op floor objects.ticks new Clock st.ticks reply m t;
+      ticks = took_kept clock_kind ClockStands (λ of. clock_answer of.cpus) (λ (of : ClockKind). of ≡ record { cpus = w.cpus; ticks = w.ticks })
+          steps op floor objects.ticks new Clock st.ticks reply m t;
       out = st.out;
     }
 
@@ -211,7 +218,8 @@ module _ (objects : Objects) (op : Op) (floor : ℕ) where
     pub out_answer : (reply : Reply) (result : Result ℕ Memory) → Took no_kind no_marks no_answer op floor objects.out new reply result
         → Answers objects object op floor reply result with_out
     out_answer reply (Err m) t = tt
-    out_answer reply (Ok stamp) t = subst (λ o. Answers objects o op floor reply (Ok stamp) with_out) (sym is) (λ w steps st own. let r : Reply × ℕ = (reply, stamp) in
+    out_answer reply (Ok stamp) t =
+        subst (λ o. Answers objects o op floor reply (Ok stamp) with_out) (sym is) (λ w steps st own. let r : Reply × ℕ = (reply, stamp) in
         let was = out_stands w steps st in
         record {
           reply = took_reply no_kind no_marks no_answer any_kind steps op floor objects.out new Out was r t;
@@ -242,10 +250,12 @@ module _ (objects : Objects) (op : Op) (floor : ℕ) where
     table_within : (w : World) (steps : List Step) → Stand w steps objects → actor < w.cpus + 1 → actor < length objects.tables.items
     table_within w steps st lt = let c = st.table_count in omega arith
 
-    pub table_answers : (reply : Reply) (result : Result ℕ Memory) → TookAt cpu_kind CpuStands table_answer op floor actor objects.tables.items next.tables.items reply result
+    pub table_answers : (reply : Reply) (result : Result ℕ Memory)
+        → TookAt cpu_kind CpuStands table_answer op floor actor objects.tables.items next.tables.items reply result
         → Answers objects object op floor reply result next
     table_answers reply (Err m) t = tt
-    table_answers reply (Ok stamp) t = subst (λ o. Answers objects o op floor reply (Ok stamp) next) (sym is) (λ w steps st own. let r : Reply × ℕ = (reply, stamp) in
+    table_answers reply (Ok stamp) t =
+        subst (λ o. Answers objects o op floor reply (Ok stamp) next) (sym is) (λ w steps st own. let r : Reply × ℕ = (reply, stamp) in
         let lt = table_within w steps st own.0 in
         let fits = λ (maps : List MapDecl). maps ≡ w.maps in
         let was = one_stands cpu_kind CpuStands table_answer fits steps op floor actor objects.tables.items next.tables.items Cpu lt st.tables t.one t.was in
@@ -263,14 +273,16 @@ module _ (objects : Objects) (op : Op) (floor : ℕ) where
           };
         })
 
-    pub table_kept : (reply : Reply) (result : Result ℕ Memory) → TookAt cpu_kind CpuStands table_answer op floor actor objects.tables.items next.tables.items reply result
+    pub table_kept : (reply : Reply) (result : Result ℕ Memory)
+        → TookAt cpu_kind CpuStands table_answer op floor actor objects.tables.items next.tables.items reply result
         → Keeps objects object op result next
     table_kept reply (Ok stamp) t = tt
     table_kept reply (Err m) t = subst (λ o. Keeps objects o op (Err m) next) (sym is) (λ w steps st own. let lt = table_within w steps st own.0 in record {
       map_count = ap (λ v. length v.items) sh ∙ st.map_count;
       shared = subst (λ v. (m : ℕ) (d : MapParts) → m < length v.items → PartsStand w steps m (slice_index_or v.items m d)) (sym sh) st.shared;
       table_count = ap length t.now ∙ length-set objects.tables.items actor t.other ∙ st.table_count;
-      tables = all_kept cpu_kind CpuStands table_answer (λ (maps : List MapDecl). maps ≡ w.maps) steps op floor actor objects.tables.items next.tables.items Cpu lt st.tables reply m t;
+      tables = all_kept cpu_kind CpuStands table_answer (λ (maps : List MapDecl). maps ≡ w.maps)
+          steps op floor actor objects.tables.items next.tables.items Cpu lt st.tables reply m t;
       ticks = subst (OwnStands clock_kind ClockStands (λ (of : ClockKind). of ≡ record { cpus = w.cpus; ticks = w.ticks }) steps Clock) (sym tk) st.ticks;
       out = ap (λ o. o.clock) ot ∙ st.out;
     })
@@ -310,10 +322,12 @@ module _ (objects : Objects) (op : Op) (floor : ℕ) where
     maps_apart : (k : ℕ) (q : ℕ) → m.0 ≢ k → is_same_object (Shared m p) (Shared (map_at k) q) ≡ false
     maps_apart k q ne = ap (λ x. x && (p == q)) (ne_eqb m.0 k ne)
 
-    pub shared_answers : (reply : Reply) (result : Result ℕ Memory) → TookAt shared_kind SharedStands part_answer op floor p one.parts.items other.parts.items reply result
+    pub shared_answers : (reply : Reply) (result : Result ℕ Memory)
+        → TookAt shared_kind SharedStands part_answer op floor p one.parts.items other.parts.items reply result
         → Answers objects object op floor reply result next
     shared_answers reply (Err x) t = tt
-    shared_answers reply (Ok stamp) t = subst (λ o. Answers objects o op floor reply (Ok stamp) next) (sym is) (λ w steps st own. let r : Reply × ℕ = (reply, stamp) in
+    shared_answers reply (Ok stamp) t =
+        subst (λ o. Answers objects o op floor reply (Ok stamp) next) (sym is) (λ w steps st own. let r : Reply × ℕ = (reply, stamp) in
         let lt = part_within w steps st own in
         let parts = parts_of w steps st own in
         let fits = IsPartOf w.maps m.0 in
@@ -341,7 +355,8 @@ module _ (objects : Objects) (op : Op) (floor : ℕ) where
           };
         })
 
-    pub shared_kept : (reply : Reply) (result : Result ℕ Memory) → TookAt shared_kind SharedStands part_answer op floor p one.parts.items other.parts.items reply result
+    pub shared_kept : (reply : Reply) (result : Result ℕ Memory)
+        → TookAt shared_kind SharedStands part_answer op floor p one.parts.items other.parts.items reply result
         → Keeps objects object op result next
     shared_kept reply (Ok stamp) t = tt
     shared_kept reply (Err x) t = subst (λ o. Keeps objects o op (Err x) next) (sym is) (λ w steps st own.
@@ -352,7 +367,8 @@ module _ (objects : Objects) (op : Op) (floor : ℕ) where
               (at_place (λ k x. PartsStand w steps k x) objects.shared.items m.0 other (map_within w steps st own)
               (record {
                 count = λ decl e. ap length t.now ∙ length-set one.parts.items p t.other ∙ parts.count decl e;
-                each = all_kept shared_kind SharedStands part_answer (IsPartOf w.maps m.0) steps op floor p one.parts.items other.parts.items (Shared m) lt parts.each reply x t;
+                each = all_kept shared_kind SharedStands part_answer (IsPartOf w.maps m.0) steps op floor
+                    p one.parts.items other.parts.items (Shared m) lt parts.each reply x t;
               })
               (λ k d ne below. st.shared k d below));
           table_count = ap (λ v. length v.items) tb ∙ st.table_count;

@@ -17,7 +17,8 @@ returns-then-stamp-told-clause-wrong c = λ d right.
     let e = c.index-as_slice-state.result in
     let same : e ≡ get_or r.entries r.at d = c.index-as_slice-state.is ∙ ap (λ l. get_or l r.at e) c.as_slice.ensures ∙ get_or_default r.entries r.at e d c.requires.more in
     let own = subst (λ (s : Step). IsOwn (world_of r) s.object s.op) (sym same) (can_be_made r is c.requires.more d).own in
-    let answer = subst (λ (s : Step). IsAnswer (world_of r) (taken r) c.take_at.new.objects s.object s.op c.clock_of-clock.result (c.take_at.new.reply, c.in_ok-stamp.stamp)) same
+    let answer = subst (λ (s : Step).
+    IsAnswer (world_of r) (taken r) c.take_at.new.objects s.object s.op c.clock_of-clock.result (c.take_at.new.reply, c.in_ok-stamp.stamp)) same
     (c.in_ok-stamp.ensures.taken (world_of r) (taken r) is.stand own) in
     let clock = c.clock_of-clock.ensures (taken r) is.clocks ∙ ap (λ (s : Step). clock_after r.cpus (taken r) s.actor) same in
     let other : c.in_ok-stamp.stamp ≢ e.stamp = search rules in
@@ -37,7 +38,8 @@ returns-clause-replaying c = λ right.
     let e = c.index-as_slice-state.result in
     let same : e ≡ get_or r.entries r.at e = c.index-as_slice-state.is ∙ ap (λ l. get_or l r.at e) c.as_slice.ensures in
     let own = subst (λ (s : Step). IsOwn (world_of r) s.object s.op) (sym same) (can_be_made r is c.requires.more e).own in
-    let answer = subst (λ (s : Step). IsAnswer (world_of r) (taken r) c.take_at.new.objects s.object s.op c.clock_of-clock.result (c.take_at.new.reply, c.in_ok-stamp.stamp)) same
+    let answer = subst (λ (s : Step).
+    IsAnswer (world_of r) (taken r) c.take_at.new.objects s.object s.op c.clock_of-clock.result (c.take_at.new.reply, c.in_ok-stamp.stamp)) same
     (c.in_ok-stamp.ensures.taken (world_of r) (taken r) is.stand own) in
     let clock = c.clock_of-clock.ensures (taken r) is.clocks ∙ ap (λ (s : Step). clock_after r.cpus (taken r) s.actor) same in
     let one : c.in_ok-stamp.stamp ≡ e.stamp = search rules in
