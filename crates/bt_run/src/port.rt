@@ -145,13 +145,14 @@ impl Port for SerialPort {
 }
 
 impl SerialPort {
-    /// A run that begins, with the main actor's turn for `BEGIN`.
+    /// A run that begins, with the main actor's turn for `BEGIN`. Room for so many steps is asked for at once.
     pub fn new(
         alloc: Global,
         objects: Objects,
         maps: &Items<MapDecl>,
         cpus: u32,
         ticks: u32,
+        expected: usize,
     ) -> Result<SerialPort, Memory>
         requires fine { All IsFineDecl maps.now }
         requires stand { Stand (record { cpus = cpus; ticks = ticks; maps = maps.now }) [] objects }
@@ -160,6 +161,8 @@ impl SerialPort {
         ensures turn { IfOk result (λ port. port.turn ≡ first_turn cpus) }
     {
         let lasts = vec![in alloc; 0u64; cpus as usize + 1]?;
+        let mut steps = StepList::new(alloc);
+        steps.expect(expected);
         Ok(SerialPort {
             run: Running {
                 cpus,
@@ -168,7 +171,7 @@ impl SerialPort {
                 objects,
                 lasts,
                 top: 0,
-                steps: StepList::new(alloc),
+                steps,
                 turn: Turn {
                     among: false,
                     begun: 0,

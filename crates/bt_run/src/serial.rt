@@ -18,6 +18,7 @@ use actor_plan::program::{run_begin, run_end, take_item};
 use bpf_interp::code::Code;
 use bt_core::memory::{Memory, sum};
 use bt_meaning::schedule::{Due, Schedule, Scheduled};
+use recordings::recording::Recording;
 use run_base::bodies::bodies_at;
 use run_base::job::Job;
 use run_objects::closed::Closed;
@@ -177,6 +178,15 @@ fn end(alloc: Global, job: &Job, codes: &[Code], port: &mut SerialPort) -> Resul
     Ok(count)
 }
 
+/// How many entries a recording has. Most scripts make at least a step for each.
+fn entries_of(recording: &Recording) -> usize {
+    let mut count = 0usize;
+    for track in recording.cpus.as_slice() {
+        count = count.saturating_add(track.entries.len());
+    }
+    count
+}
+
 /// Runs a job on one thread: `BEGIN`, the items in the serial order, and `END`. Gives the objects that hold maps as they
 /// then are, the steps in the order in which they were made, and how many instructions were executed.
 pub(crate) fn make_steps(
@@ -194,7 +204,8 @@ pub(crate) fn make_steps(
 {
     let cpus = job.recording.cpus.len() as u32;
     let ticks = job.attached.ticks.len() as u32;
-    let mut port = SerialPort::new(alloc, objects, &job.typed.maps, cpus, ticks)?;
+    let expected = entries_of(&job.recording);
+    let mut port = SerialPort::new(alloc, objects, &job.typed.maps, cpus, ticks, expected)?;
     let begun = begin(alloc, job, codes, &mut port)?;
     let taken = take_all(alloc, job, codes, &mut schedule, &mut port)?;
     let ended = end(alloc, job, codes, &mut port)?;
