@@ -78,11 +78,7 @@ impl<'g, B: Bodies, G: Gate> CpuWorker<'g, B, G> {
         ensures plan_kept { B.plan self.new.bodies ≡ B.plan self.old.bodies }
     {
         let turns = mem::replace(&mut self.turns, WorkerTurns::none(alloc, self.cpu));
-        let mut trace = mem::replace(&mut self.trace, Trace::new(alloc, self.cpu));
-        if let Some(track) = world.recording.cpus.get(self.cpu as usize) {
-            // Most scripts make at least a step for each event.
-            trace.expect(track.entries.len());
-        }
+        let trace = mem::replace(&mut self.trace, Trace::new(alloc, self.cpu));
         let mut port = WorldPort::new(rt, world, turns, trace, self.gate);
         let outcome = run_cpu(
             alloc,

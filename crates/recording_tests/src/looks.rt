@@ -197,7 +197,7 @@ fn are_found(alloc: Global, row: &Row) -> Result<bool, Memory> {
     let mut noted = Noted::of(alloc, file.as_slice())?;
     let found = BeforeCpus.cuts(alloc, &mut noted)?;
     let (looked, blocks) = noted.shares();
-    Ok(found.as_slice() == heads.as_slice() && looked <= blocks / row.part)
+    Ok(found.as_slice() == heads.as_slice() && looked <= blocks / row.part.max(1))
 }
 
 #[test]

@@ -41,7 +41,7 @@ fn run_cpus<B: Bodies + Drop + Send, G: Gate + Sync, R: Threads + Wait + Sync>(
     ensures { IfOk result (λ all. (plans : ℕ → Plan) → HavePlans B.plan (world_cpus world.now) plans bodies.items →
         HaveGone (replay_in world.now plans) world.now clock all) }
 {
-    let mut tasks = new_tasks(alloc, bodies, turns, clock, gate)?;
+    let mut tasks = new_tasks(alloc, world, bodies, turns, clock, gate)?;
     run_all(rt, alloc, world, &mut tasks);
     gather(alloc, tasks)
 }

@@ -10,7 +10,7 @@ use actor_plan::bodies::Bodies;
 use actor_plan::outcome::Outcome;
 use bt_core::memory::{Memory, sum};
 use cpu_worker::worker::CpuWorker;
-use cpu_worker::world::WorkerTurns;
+use cpu_worker::world::{SharedWorld, WorkerTurns};
 use stamped::trace::Trace;
 use std::alloc::Global;
 use turn_lock::gate::Gate;
@@ -23,9 +23,18 @@ pub struct Gathered {
     pub instructions: u64,
 }
 
+/// How many entries the CPU at a place has. Most scripts make at least a step for each.
+fn entries_of(world: &SharedWorld, cpu: u32) -> usize {
+    match world.recording.cpus.get(cpu as usize) {
+        Some(track) => track.entries.len(),
+        None => 0,
+    }
+}
+
 /// A worker of the CPU with these bodies and turns, which was not run. Its trace is empty and has this clock.
 fn new_task<'g, B: Bodies + Drop, G: Gate>(
     alloc: Global,
+    world: &SharedWorld,
     bodies: B,
     turns: WorkerTurns,
     clock: u64,
@@ -38,6 +47,7 @@ fn new_task<'g, B: Bodies + Drop, G: Gate>(
 {
     let cpu = turns.tables.actor();
     let mut trace = Trace::new(alloc, cpu);
+    trace.expect(entries_of(world, cpu));
     trace.raise(clock);
     Task {
         worker: CpuWorker::new(cpu, bodies, gate, turns, trace),
@@ -48,6 +58,7 @@ fn new_task<'g, B: Bodies + Drop, G: Gate>(
 /// Workers of the CPUs with these bodies and turns, in their order. Their traces are empty and have this clock.
 pub(crate) fn new_tasks<'g, B: Bodies + Drop, G: Gate>(
     alloc: Global,
+    world: &SharedWorld,
     bodies: Vec<B>,
     turns: Vec<WorkerTurns>,
     clock: u64,
@@ -61,7 +72,7 @@ pub(crate) fn new_tasks<'g, B: Bodies + Drop, G: Gate>(
 {
     let mut tasks = Vec::new(alloc);
     for (own, own_turns) in bodies.into_iter().zip(turns) {
-        tasks.push(new_task(alloc, own, own_turns, clock, gate))?;
+        tasks.push(new_task(alloc, world, own, own_turns, clock, gate))?;
     }
     Ok(tasks)
 }
