@@ -1,12 +1,15 @@
 #!/usr/bin/env python3
-"""Measures this program beside `perf script` with awk on one real recording, by hand: python3 bench/peer.py PERF.DATA [TIMES [PROGRAM]]
+"""Measures this program beside `perf script` with awk on one real recording, by hand: python3 bench/peer.py PERF.DATA [TIMES [PROGRAM [BEFORE]]]
 
 PERF.DATA is a file of `perf record -a -R -T -e raw_syscalls:sys_enter`, of at most 1,048,576 events; bench/README.md has a load that makes
 about a million. It is made a recording by `tools/btrecord convert`, whole and its first half, in a folder that is removed at the end. Then
 each line of the table is run TIMES times in turn (5 where nothing is said), the runs by PROGRAM or else by the built program
-crates/bt_program/out/bt_program: the median of the processor times in seconds (of the user and of the system together, of a pipe's programs
-too), the median of the wall times, and the greatest memory of a process in MB. The counts of all ways are compared: where they differ it ends
-with status 1.
+crates/bt_program/out/bt_program, and `check` and the count on one thread by an earlier program BEFORE too, where it is said: the median of
+the processor times in seconds (of the user and of the system together, of a pipe's programs too), the median of the wall times, and the
+greatest memory of a process in MB. Each run is made twice and the second is measured: the host of a virtual machine may take memory back
+that is free for some seconds, and a process that is given it pays for its way back. Behind the table the same of those runs alone in which
+the host took no processor away, and how many these were; and how the medians compare. The counts of all ways are compared: where they
+differ it ends with status 1.
 """
 import os
 import shlex
@@ -16,6 +19,7 @@ import sys
 import tempfile
 
 from serial import PROGRAM, TOP
+from stolen import stolen
 
 POINT = "tracepoint:raw_syscalls:sys_enter"
 SCRIPTS = {"count by name": POINT + " { @[comm] = count(); }\n",
@@ -33,13 +37,24 @@ print(status, usage.ru_utime + usage.ru_stime, wall, usage.ru_maxrss / 1024)
 AWK = "awk '{ n[$1]++ } END { for (name in n) print name, n[name] }'"
 
 
-def measured(words, output):
-    """The processor seconds, the wall seconds and the greatest memory in MB of a run, whose output goes to a file."""
+FIELDS, NO_FIELDS = "perf script -F comm,event,trace | awk", "perf script -F comm,event | awk"
+SERIAL, THREADS, EARLIER = "count by name, run --serial", "count by name, run", "count by name, before"
+
+
+def ran(words, output):
+    """The processor seconds, the wall seconds and the greatest memory in MB of a run, whose output goes to a file, and what was stolen in it."""
+    before = stolen()
     done = subprocess.run([sys.executable, "-S", "-c", RUNNER, output, *words], stdout=subprocess.PIPE, text=True, check=True)
     status, *figures = done.stdout.split()
     if status != "0":
         sys.exit(f"{shlex.join(words)} ended with status {status}")
-    return [float(figure) for figure in figures]
+    return [float(figure) for figure in figures] + [stolen() - before]
+
+
+def measured(words, output):
+    """The figures of a run right behind another one of the same words, which leaves memory that the machine has at hand."""
+    ran(words, output)
+    return ran(words, output)
 
 
 def peer(data, fields):
@@ -47,18 +62,39 @@ def peer(data, fields):
     return ["sh", "-c", f"perf script -i {shlex.quote(data)} -F {fields} 2>/dev/null | {AWK}"]
 
 
-def lines_of(program, folder, recordings, data):
+def lines_of(program, earlier, folder, recordings, data):
     """The lines of the table: a name, a share of the events, and words."""
-    lines = [("perf script -F comm,event,trace | awk", 1, peer(data, "comm,event,trace")),
-             ("perf script -F comm,event | awk", 1, peer(data, "comm,event"))]
+    lines = [(FIELDS, 1, peer(data, "comm,event,trace")), (NO_FIELDS, 1, peer(data, "comm,event"))]
+    count = os.path.join(folder, "count by name.bt")
+    if earlier:
+        whole = recordings[-1][1]
+        lines += [("check, before", 1, [earlier, "check", count, whole]), (EARLIER, 1, [earlier, "run", "--serial", count, whole])]
     for share, recording in recordings:
-        source = os.path.join(folder, "count by name.bt")
-        lines.append(("check", share, [program, "check", source, recording]))
+        lines.append(("check", share, [program, "check", count, recording]))
         for name in SCRIPTS:
             source = os.path.join(folder, f"{name}.bt")
             for words in (["run", "--serial"], ["run"]):
                 lines.append((f"{name}, {' '.join(words)}", share, [program, *words, source, recording]))
     return lines
+
+
+def tell_table(lines, runs):
+    """Prints the medians of some runs of each line, and how many these are."""
+    print(f"{'way':40}{'events':>8}{'runs':>6}{'processor s':>13}{'wall s':>8}{'MB':>7}")
+    for (name, share, _), some in zip(lines, runs):
+        if some:
+            processor, wall = (statistics.median(run[which] for run in some) for which in (0, 1))
+            print(f"{name:40}{'all' if share == 1 else 'half':>8}{len(some):>6}{processor:>13.3f}{wall:>8.3f}{max(run[2] for run in some):>7.0f}")
+
+
+def tell_ratios(lines, runs):
+    """Prints how the medians of the count compare, where there are runs of both."""
+    of_line = {name: some for (name, share, _), some in zip(lines, runs) if share == 1 and some}
+    for name, base, which, what in ((FIELDS, SERIAL, 0, "processor"), (NO_FIELDS, SERIAL, 0, "processor"), (SERIAL, EARLIER, 0, "processor"),
+                                    (THREADS, SERIAL, 1, "wall")):
+        if name in of_line and base in of_line:
+            one, other = (statistics.median(run[which] for run in of_line[line]) for line in (name, base))
+            print(f"{name} takes {one / other:.3f} of the {what} seconds of {base}")
 
 
 def total(path):
@@ -82,7 +118,7 @@ def main():
     if len(sys.argv) < 2:
         sys.exit(__doc__)
     data, times = sys.argv[1], int(sys.argv[2]) if len(sys.argv) > 2 else 5
-    program = sys.argv[3] if len(sys.argv) > 3 else PROGRAM
+    program, earlier = sys.argv[3] if len(sys.argv) > 3 else PROGRAM, sys.argv[4] if len(sys.argv) > 4 else None
     if not os.path.exists(program):
         sys.exit("build the program first: ./btreplay")
     with tempfile.TemporaryDirectory() as folder:
@@ -90,13 +126,14 @@ def main():
             with open(os.path.join(folder, f"{name}.bt"), "w") as file:
                 file.write(script)
         recordings = made(data, folder)
-        lines, rounds = lines_of(program, folder, recordings, data), []
+        lines, rounds = lines_of(program, earlier, folder, recordings, data), []
         for _ in range(times):
             rounds.append([measured(words, os.path.join(folder, f"output{at}")) for at, (_, _, words) in enumerate(lines)])
-        print(f"{'way':40}{'events':>8}{'processor s':>13}{'wall s':>8}{'MB':>7}")
-        for at, (name, share, _) in enumerate(lines):
-            processor, wall = (statistics.median(row[at][which] for row in rounds) for which in (0, 1))
-            print(f"{name:40}{'all' if share == 1 else 'half':>8}{processor:>13.2f}{wall:>8.2f}{max(row[at][2] for row in rounds):>7.0f}")
+        runs = list(zip(*rounds))
+        for some in (runs, [[run for run in row if run[3] == 0] for row in runs]):
+            tell_table(lines, some)
+            tell_ratios(lines, some)
+            print()
         counts = {total(os.path.join(folder, f"output{at}")) for at, (name, share, _) in enumerate(lines)
                   if share == 1 and name.startswith(("perf", "count"))}
         if len(counts) != 1:
