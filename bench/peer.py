@@ -7,9 +7,9 @@ each line of the table is run TIMES times in turn (5 where nothing is said), the
 crates/bt_program/out/bt_program, and `check` and the count on one thread by an earlier program BEFORE too, where it is said: the median of
 the processor times in seconds (of the user and of the system together, of a pipe's programs too), the median of the wall times, and the
 greatest memory of a process in MB. Each run is made twice and the second is measured: the host of a virtual machine may take memory back
-that is free for some seconds, and a process that is given it pays for its way back. Behind the table the same of those runs alone in which
-the host took no processor away, and how many these were; and how the medians compare. The counts of all ways are compared: where they
-differ it ends with status 1.
+that is free for some seconds, and a process that is given it pays for its way back. Behind the table stand how the medians compare, and
+the same of those runs alone in which the machine had its processors to itself, as bench/machine.py tells. The counts of all ways are
+compared: where they differ it ends with status 1.
 """
 import os
 import shlex
@@ -18,8 +18,8 @@ import subprocess
 import sys
 import tempfile
 
+from machine import Machine
 from serial import PROGRAM, TOP
-from stolen import stolen
 
 POINT = "tracepoint:raw_syscalls:sys_enter"
 SCRIPTS = {"count by name": POINT + " { @[comm] = count(); }\n",
@@ -41,20 +41,19 @@ FIELDS, NO_FIELDS = "perf script -F comm,event,trace | awk", "perf script -F com
 SERIAL, THREADS, EARLIER = "count by name, run --serial", "count by name, run", "count by name, before"
 
 
-def ran(words, output):
-    """The processor seconds, the wall seconds and the greatest memory in MB of a run, whose output goes to a file, and what was stolen in it."""
-    before = stolen()
+def measured(words, output):
+    """The processor seconds, the wall seconds and the greatest memory in MB of a run, whose output goes to a file."""
     done = subprocess.run([sys.executable, "-S", "-c", RUNNER, output, *words], stdout=subprocess.PIPE, text=True, check=True)
     status, *figures = done.stdout.split()
     if status != "0":
         sys.exit(f"{shlex.join(words)} ended with status {status}")
-    return [float(figure) for figure in figures] + [stolen() - before]
+    return [float(figure) for figure in figures]
 
 
-def measured(words, output):
-    """The figures of a run right behind another one of the same words, which leaves memory that the machine has at hand."""
-    ran(words, output)
-    return ran(words, output)
+def second(machine, words, output):
+    """The figures of a run right behind another one of the same words, and whether the machine had its processors to itself."""
+    measured(words, output)
+    return machine.watched(lambda: measured(words, output))
 
 
 def peer(data, fields):
@@ -121,6 +120,7 @@ def main():
     program, earlier = sys.argv[3] if len(sys.argv) > 3 else PROGRAM, sys.argv[4] if len(sys.argv) > 4 else None
     if not os.path.exists(program):
         sys.exit("build the program first: ./btreplay")
+    machine = Machine()
     with tempfile.TemporaryDirectory() as folder:
         for name, script in SCRIPTS.items():
             with open(os.path.join(folder, f"{name}.bt"), "w") as file:
@@ -128,9 +128,10 @@ def main():
         recordings = made(data, folder)
         lines, rounds = lines_of(program, earlier, folder, recordings, data), []
         for _ in range(times):
-            rounds.append([measured(words, os.path.join(folder, f"output{at}")) for at, (_, _, words) in enumerate(lines)])
+            rounds.append([second(machine, words, os.path.join(folder, f"output{at}")) for at, (_, _, words) in enumerate(lines)])
         runs = list(zip(*rounds))
-        for some in (runs, [[run for run in row if run[3] == 0] for row in runs]):
+        for is_any in (True, False):
+            some = [[figures for figures, is_alone in row if is_any or is_alone] for row in runs]
             tell_table(lines, some)
             tell_ratios(lines, some)
             print()
