@@ -73,22 +73,22 @@ def make(path, events):
 
 
 def measured(words):
-    """The wall time in seconds and the greatest memory in kilobytes of a run of the program."""
+    """The wall seconds, the processor seconds and the greatest memory in kilobytes of a run of the program."""
     began = time.monotonic()
     pid = os.posix_spawn(PROGRAM, [PROGRAM] + words, os.environ,
                          file_actions=[(os.POSIX_SPAWN_OPEN, 1, os.devnull, os.O_WRONLY, 0)])
     _, status, usage = os.wait4(pid, 0)
     if status != 0:
         sys.exit(f"{words} ended with status {status}")
-    return time.monotonic() - began, usage.ru_maxrss
+    return time.monotonic() - began, usage.ru_utime + usage.ru_stime, usage.ru_maxrss
 
 
 def compared(source, path, times):
     """The seconds of `check` and of `run --serial`, so many of each taken in turn, and the greatest memory of each in kilobytes."""
     pairs = [(measured(["check", source, path]), measured(["run", "--serial", source, path])) for _ in range(times)]
-    checks = [check for (check, _), _ in pairs]
-    runs = [run for _, (run, _) in pairs]
-    return checks, runs, max(kb for (_, kb), _ in pairs), max(kb for _, (_, kb) in pairs)
+    checks = [check[0] for check, _ in pairs]
+    runs = [run[0] for _, run in pairs]
+    return checks, runs, max(check[2] for check, _ in pairs), max(run[2] for _, run in pairs)
 
 
 def told(name, count, checks, runs, check_kb, run_kb):

@@ -17,10 +17,9 @@ import signal
 import statistics
 import sys
 import tempfile
-import time
 
 from machine import Machine
-from serial import PROGRAM, SCRIPTS, make
+from serial import PROGRAM, SCRIPTS, make, measured
 
 WAYS = [["check"], ["run", "--serial"], ["run"]]
 
@@ -44,17 +43,6 @@ def busy(count):
             os.waitpid(pid, 0)
 
 
-def measured(words):
-    """The wall seconds, the processor seconds and the greatest memory in MB of a run of the program."""
-    began = time.monotonic()
-    pid = os.posix_spawn(PROGRAM, [PROGRAM] + words, os.environ,
-                         file_actions=[(os.POSIX_SPAWN_OPEN, 1, os.devnull, os.O_WRONLY, 0)])
-    _, status, usage = os.wait4(pid, 0)
-    if status != 0:
-        sys.exit(f"{words} ended with status {status}")
-    return time.monotonic() - began, usage.ru_utime + usage.ru_stime, usage.ru_maxrss / 1024
-
-
 def second(machine, words):
     """The figures of a run right behind another one of the same words, and whether the machine had its processors to itself."""
     measured(words)
@@ -65,7 +53,7 @@ def line_of(name, runs):
     """The line of a script by some runs of each way."""
     check, wall, wall_threads = [statistics.median(run[0] for run in some) for some in runs]
     used, used_threads = [statistics.median(run[1] for run in some) for some in runs[1:]]
-    megabytes = [max(run[2] for run in some) for some in runs[1:]]
+    megabytes = [max(run[2] for run in some) / 1024 for some in runs[1:]]
     counts = ", ".join(str(len(some)) for some in runs)
     return (f"{name:16}{counts:>14}{check:>9.3f}{wall:>10.3f}{wall_threads:>11.3f}{wall_threads / wall:>8.2f}"
             f"{used:>14.3f}{used_threads:>15.3f}{used_threads / used:>8.2f}{megabytes[0]:>11.0f}{megabytes[1]:>12.0f}")
