@@ -112,14 +112,24 @@ fn place_among(sum: u64, places: usize) -> usize
 #[inline(always)]
 fn text_mixed(mut sum: u64, bytes: &[u8]) -> u64 {
     let words = bytes.len() / 8;
-    let rest = bytes.len() % 8;
     for n in 0..words {
         sum = mixed(sum, LittleEndian::read_u64(&bytes[8 * n..]));
     }
-    if rest > 0 {
-        sum = mixed(sum, LittleEndian::read_uint(&bytes[8 * words..], rest));
+    if bytes.len() % 8 > 0 {
+        sum = mixed(sum, rest_word(&bytes[8 * words..]));
     }
     sum
+}
+
+/// The number that fewer than eight bytes spell, the highest first. A word that they are copied into, and that is read right behind that,
+/// has to be waited for; these are read one by one.
+#[inline(always)]
+fn rest_word(bytes: &[u8]) -> u64 {
+    let mut word: u64 = 0;
+    for byte in bytes {
+        word = word.wrapping_mul(256).wrapping_add(u64::from(*byte));
+    }
+    word
 }
 
 /// A hash that has taken in one word more.

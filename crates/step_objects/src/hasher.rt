@@ -1,6 +1,6 @@
 // The hash by which tables find keys.
-ghost use Rattle.std.specs.Prelude.{◌≡◌};
-ghost use Rattle.step_objects.specs.Hashing.{fed, told, mixed, words_mixed};
+ghost use Rattle.std.specs.Prelude.{◌≡◌, length};
+ghost use Rattle.step_objects.specs.Hashing.{fed, told, mixed, rest_word, words_mixed};
 
 use byteorder::{ByteOrder, LittleEndian};
 use std::hash::Hasher;
@@ -34,13 +34,11 @@ impl Hasher for KeyHasher {
     #[inline(always)]
     fn write(&mut self, bytes: &[u8]) {
         let words = bytes.len() / 8;
-        let rest = bytes.len() % 8;
         for n in 0..words {
             self.state = mixed(self.state, LittleEndian::read_u64(&bytes[8 * n..]));
         }
-        if rest > 0 {
-            let last = LittleEndian::read_uint(&bytes[8 * words..], rest);
-            self.state = mixed(self.state, last);
+        if bytes.len() % 8 > 0 {
+            self.state = mixed(self.state, rest_word(&bytes[8 * words..]));
         }
     }
 }
@@ -52,4 +50,17 @@ fn mixed(state: u64, word: u64) -> u64
 {
     let product = state.wrapping_add(word) as u128 * MULTIPLIER as u128;
     (product & 0xFFFF_FFFF_FFFF_FFFF) as u64 ^ (product >> 64) as u64
+}
+
+/// The number that fewer than eight bytes spell, the highest first. They are read one by one, since a word that they were copied into right
+/// before would have to be waited for.
+#[inline(always)]
+fn rest_word(bytes: &[u8]) -> u64
+    ensures { result ≡ rest_word bytes.now (length bytes.now) }
+{
+    let mut word: u64 = 0;
+    for n in 0..bytes.len() {
+        word = word.wrapping_mul(256).wrapping_add(u64::from(bytes[n]));
+    }
+    word
 }
