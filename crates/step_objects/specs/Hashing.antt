@@ -1,6 +1,7 @@
 -- The hash by which tables find keys.
-use Rattle.std.specs.Prelude.{ℕ, zero, suc, ◌+◌, ◌*◌, ◌/◌, ◌%◌, ◌^◌, ◌==◌, if◌then◌else◌, List, length, drop, slice_index, bit_xor}
-use Rattle.byteorder.specs.Endian.{little_number}
+use Rattle.std.specs.Prelude.{ℕ, ◌+◌, ◌*◌, ◌/◌, ◌%◌, ◌^◌, ◌==◌, if◌then◌else◌, List, [], ◌∷◌, ◌++◌, length, drop, map, fold, bit_xor}
+use Rattle.std.specs.List.{range_with_len}
+use Rattle.byteorder.specs.Endian.{big_number, little_number}
 use Rattle.step_objects.specs.declared.hasher.KeyHasher.{KeyHasher}
 
 -- the two halves of 128 bits, joined by xor
@@ -11,22 +12,27 @@ halves_joined product = bit_xor (product % 2 ^ 64) (product / 2 ^ 64)
 abbrev pub mixed : ℕ → ℕ → ℕ
 mixed state word = halves_joined ((state + word) % 2 ^ 64 * 17380933483125451205)
 
--- a state that has taken in the first words of eight bytes each
-abbrev pub words_mixed : ℕ → List ℕ → ℕ → ℕ
-words_mixed state bytes zero = state
-words_mixed state bytes (suc n) = mixed (words_mixed state bytes n) (little_number 8 (drop (8 * n) bytes))
+-- the word of eight bytes that has a place, the lowest byte first
+abbrev pub word_at : List ℕ → ℕ → ℕ
+word_at bytes n = little_number 8 (drop (8 * n) bytes)
 
--- the number of 64 bits that the first bytes spell, the highest first
-abbrev pub rest_word : List ℕ → ℕ → ℕ
-rest_word bytes zero = 0
-rest_word bytes (suc n) = (rest_word bytes n * 256 % 2 ^ 64 + slice_index bytes n) % 2 ^ 64
+-- the first words of bytes
+abbrev pub first_words : List ℕ → ℕ → List ℕ
+first_words bytes n = map (word_at bytes) (range_with_len 0 n)
 
--- a state that has taken in all words, and what is left of the bytes as one word more
+-- all bytes as one word, the highest first
+abbrev pub rest_word : List ℕ → ℕ
+rest_word rest = big_number (length rest) rest
+
+-- the words of bytes: of eight bytes each, and of what is left behind these, where there is something
+abbrev pub words_in : List ℕ → List ℕ
+words_in bytes =
+    let count = length bytes / 8 in
+    first_words bytes count ++ (if length bytes % 8 == 0 then [] else rest_word (drop (8 * count) bytes) ∷ [])
+
+-- a hasher that has taken in all words of bytes
 abbrev pub fed : KeyHasher → List ℕ → KeyHasher
-fed hasher bytes =
-    let words = words_mixed hasher.state bytes (length bytes / 8) in
-    let rest = drop (8 * (length bytes / 8)) bytes in
-    record { state = if length bytes % 8 == 0 then words else mixed words (rest_word rest (length rest)) }
+fed hasher bytes = record { state = fold mixed hasher.state (words_in bytes) }
 
 abbrev pub told : KeyHasher → ℕ
 told hasher = hasher.state

@@ -1,6 +1,6 @@
 // The hash by which tables find keys.
-ghost use Rattle.std.specs.Prelude.{◌≡◌, length};
-ghost use Rattle.step_objects.specs.Hashing.{fed, told, mixed, rest_word, words_mixed};
+ghost use Rattle.std.specs.Prelude.{◌≡◌, ◌<◌, length};
+ghost use Rattle.step_objects.specs.Hashing.{fed, told, mixed, rest_word};
 
 use byteorder::{ByteOrder, LittleEndian};
 use std::hash::Hasher;
@@ -56,7 +56,8 @@ fn mixed(state: u64, word: u64) -> u64
 /// before would have to be waited for.
 #[inline(always)]
 fn rest_word(bytes: &[u8]) -> u64
-    ensures { result ≡ rest_word bytes.now (length bytes.now) }
+    requires { length bytes.now < 8 }
+    ensures { result ≡ rest_word bytes.now }
 {
     let mut word: u64 = 0;
     for n in 0..bytes.len() {
