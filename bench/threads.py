@@ -5,11 +5,12 @@ It makes the recording of bench/serial.py, of EVENTS events over 4 CPUs (1,000,0
 `run --serial` and `run` on it with the scripts of bench/serial.py, TIMES times in turn (5 where nothing is said), by the built
 program crates/bt_program/out/bt_program, while BUSY processes beside it take as much of the processors as they get (none where nothing is
 said). For each script it tells the medians of the wall times in seconds, the ratio of a run on threads to one on one thread, the medians of
-the processor times of these two and their ratio, and the greatest memory of each in MB.
+the processor times of these two and their ratio, and the greatest memory of each in MB; and in the line behind it the least of the times,
+which tell of the machine at its fastest.
 
 Each run is made twice and the second is measured: the host of a virtual machine may take memory back that is free for some seconds, and a
-process that is given it pays for its way back. Behind each line stands the same of those runs alone in which the machine had its processors
-to itself, as bench/machine.py tells, and how many of each way these were.
+process that is given it pays for its way back. Behind these lines stands the first one of those runs alone in which the machine had its
+processors to itself, as bench/machine.py tells, and how many of each way these were.
 """
 import contextlib
 import os
@@ -49,10 +50,10 @@ def second(machine, words):
     return machine.watched(lambda: measured(words))
 
 
-def line_of(name, runs):
-    """The line of a script by some runs of each way."""
-    check, wall, wall_threads = [statistics.median(run[0] for run in some) for some in runs]
-    used, used_threads = [statistics.median(run[1] for run in some) for some in runs[1:]]
+def line_of(name, runs, middle=statistics.median):
+    """The line of a script by some runs of each way: by their medians, or by what else is said."""
+    check, wall, wall_threads = [middle(run[0] for run in some) for some in runs]
+    used, used_threads = [middle(run[1] for run in some) for some in runs[1:]]
     megabytes = [max(run[2] for run in some) / 1024 for some in runs[1:]]
     counts = ", ".join(str(len(some)) for some in runs)
     return (f"{name:16}{counts:>14}{check:>9.3f}{wall:>10.3f}{wall_threads:>11.3f}{wall_threads / wall:>8.2f}"
@@ -64,7 +65,8 @@ def told(machine, name, source, path, times):
     rounds = [[second(machine, way + [source, path]) for way in WAYS] for _ in range(times)]
     runs = list(zip(*rounds))
     alone = [[figures for figures, is_alone in some if is_alone] for some in runs]
-    lines = [line_of(name, [[figures for figures, _ in some] for some in runs])]
+    every = [[figures for figures, _ in some] for some in runs]
+    lines = [line_of(name, every), line_of("  least", every, min)]
     return "\n".join(lines + ([line_of("  to itself", alone)] if all(alone) else []))
 
 
