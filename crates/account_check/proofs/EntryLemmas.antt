@@ -11,14 +11,14 @@ use Rattle.bt_core.specs.Kinds.{IsFineDecl}
 use Rattle.recordings.specs.declared.recording.Recording.{Recording}
 use Rattle.typed_tree.specs.declared.script.Typed.{Typed}
 use Rattle.actor_plan.specs.Plans.{Plan, TakesFew}
-use Rattle.blank_steps.specs.Blank.{blank, blank_op}
+use Rattle.step_entries.specs.Blank.{blank, blank_op}
 use Rattle.bt_meaning.specs.Jobs.{IsJob}
 use Rattle.bt_meaning.specs.Walks.{walking}
 use Rattle.bt_meaning.proofs.OwnCalls.{all_fine}
-use Rattle.entry_replay.specs.Replaying.{CanBeMade}
-use Rattle.step_check.specs.Plans.{CanFollow, HavePlans}
-use Rattle.walk_bodies.specs.declared.walks.Walks.{Walks}
-use Rattle.walk_bodies.specs.Plans.{plan_of}
+use Rattle.account_replay.specs.Replaying.{CanBeMade}
+use Rattle.account_steps.specs.Plans.{CanFollow, HavePlans}
+use Rattle.account_check.specs.declared.walks.Walks.{Walks}
+use Rattle.account_check.specs.Plans.{plan_of}
 use Rattle.account_format.specs.Entries.{FitsOp, FitsStep, IsEntry}
 use Rattle.account_check.specs.Accounts.{named}
 

@@ -1,7 +1,9 @@
 mod Differing
 mod EntryLemmas
 mod Faults
+mod NoInstructions
 mod OneAnswer
 mod RunsTold
 mod TextLemmas
 mod Verdicts
+mod WalkLemmas

@@ -5,14 +5,14 @@ use Rattle.bt_core.specs.declared.step.Step.{Step}
 use Rattle.bt_core.specs.Want.{out_of_memory}
 use Rattle.recordings.specs.declared.recording.Recording.{Recording}
 use Rattle.typed_tree.specs.declared.script.Typed.{Typed}
-use Rattle.blank_steps.specs.Blank.{blank}
+use Rattle.step_entries.specs.Blank.{blank}
 use Rattle.bt_meaning.specs.Interleavings.{IsReplayed}
 use Rattle.bt_meaning.specs.Jobs.{IsJob}
-use Rattle.begun_lists.specs.Begun.{AreAllWhole, IsBegun}
-use Rattle.begun_lists.specs.Wrong.{IsWrongStep, IsUnfinished}
-use Rattle.begun_lists.proofs.Determined.{only_one}
-use Rattle.begun_lists.proofs.NoFurther.{none_wrong, not_both, same_wrong_step}
-use Rattle.begun_lists.proofs.WholeLists.{all_whole, begun_of_replayed}
+use Rattle.begun_meaning.specs.Begun.{AreAllWhole, IsBegun}
+use Rattle.begun_meaning.specs.Wrong.{IsWrongStep, IsUnfinished}
+use Rattle.begun_meaning.proofs.Determined.{only_one}
+use Rattle.begun_meaning.proofs.NoFurther.{none_wrong, not_both, same_wrong_step}
+use Rattle.begun_meaning.proofs.WholeLists.{all_whole, begun_of_replayed}
 use Rattle.account_format.specs.Accounts.{IsAccount}
 use Rattle.account_format.specs.Wrong.{IsWrongAccount}
 use Rattle.account_format.proofs.AccountLaws.{account_not_wrong, one_account, one_wrong_place}

@@ -24,9 +24,9 @@ use Rattle.bt_meaning.specs.Replays.{PlansAreOwn}
 use Rattle.bt_meaning.specs.Texts.{EmitOwn}
 use Rattle.bt_meaning.proofs.Eachs.{each_so, each_front, each_kept}
 use Rattle.bt_meaning.proofs.OwnCalls.{script_steps}
-use Rattle.begun_lists.specs.Begun.{IsBegun, program_of}
-use Rattle.begun_lists.proofs.Cuts.{cuts_of_each, each_of_cuts}
-use Rattle.begun_lists.proofs.WholeLists.{begun_of_replayed}
+use Rattle.begun_meaning.specs.Begun.{IsBegun, program_of}
+use Rattle.begun_meaning.proofs.Cuts.{cuts_of_each, each_of_cuts}
+use Rattle.begun_meaning.proofs.WholeLists.{begun_of_replayed}
 use Rattle.total_laws.specs.Calls.{IsProgramCall}
 use Rattle.account_format.specs.Entries.{FitsStep, IsAtHome, IsTold}
 use Rattle.account_check.specs.Accounts.{named, run}

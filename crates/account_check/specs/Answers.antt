@@ -4,9 +4,9 @@ use Rattle.bt_ast.specs.declared.attached.Attached.{Attached}
 use Rattle.bt_core.specs.declared.step.Step.{Step}
 use Rattle.recordings.specs.declared.recording.Recording.{Recording}
 use Rattle.typed_tree.specs.declared.script.Typed.{Typed}
-use Rattle.blank_steps.specs.Blank.{blank}
+use Rattle.step_entries.specs.Blank.{blank}
 use Rattle.bt_meaning.specs.Interleavings.{IsReplayed}
-use Rattle.begun_lists.specs.Wrong.{IsWrongStep, IsUnfinished}
+use Rattle.begun_meaning.specs.Wrong.{IsWrongStep, IsUnfinished}
 use Rattle.account_format.specs.Accounts.{IsAccount}
 use Rattle.account_format.specs.Wrong.{IsWrongAccount}
 use Rattle.account_format.specs.declared.error.AccountError.{AccountError}

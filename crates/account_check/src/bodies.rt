@@ -1,13 +1,13 @@
 // The bodies of a script for all actors.
 ghost use Rattle.std.specs.Prelude.{◌≡◌, ℕ, ◌<◌, length, slice_index_or, IfOk};
 ghost use Rattle.bt_meaning.specs.Walks.{walking};
-ghost use Rattle.walk_bodies.specs.declared.walks.Walks.{Walks as Walking};
-ghost use Rattle.walk_bodies.specs.Plans.{plan_of};
+ghost use Rattle.account_check.specs.declared.walks.Walks.{Walks as Walking};
+ghost use Rattle.account_check.specs.Plans.{plan_of};
 
+use crate::walks::Walks;
 use bt_core::memory::Memory;
 use std::alloc::Global;
 use typed_tree::script::Typed;
-use walk_bodies::walks::Walks;
 
 /// The walks of a script's bodies, for each of so many actors.
 pub(crate) fn walks_of<'a>(

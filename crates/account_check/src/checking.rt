@@ -5,11 +5,13 @@ ghost use Rattle.actor_plan.specs.Plans.{Plan};
 ghost use Rattle.account_format.specs.Entries.{IsEntry};
 ghost use Rattle.bt_meaning.specs.Jobs.{IsJob};
 ghost use Rattle.bt_meaning.specs.Walks.{walking};
-ghost use Rattle.step_check.specs.Answers.{IsFound};
-ghost use Rattle.step_check.specs.Plans.{HavePlans};
+ghost use Rattle.account_steps.specs.Answers.{IsFound};
+ghost use Rattle.account_steps.specs.Plans.{HavePlans};
 ghost use Rattle.account_check.specs.Accounts.{named, run};
 
 use crate::bodies::walks_of;
+use crate::walks::walks_take_few;
+use account_steps::check::{Checked, check_steps};
 use actor_plan::bodies::Bodies;
 use bt_ast::attached::Attached;
 use bt_core::items::Items;
@@ -17,9 +19,7 @@ use bt_core::memory::Memory;
 use bt_core::step::Step;
 use recordings::recording::Recording;
 use std::alloc::Global;
-use step_check::check::{Checked, check_steps};
 use typed_tree::script::Typed;
-use walk_bodies::laws::walks_take_few;
 
 /// What is found of entries, by bodies with the plans of the script's walks.
 fn found_by<B: Bodies>(

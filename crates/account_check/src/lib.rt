@@ -7,3 +7,4 @@ pub mod laws;
 mod reading;
 mod text;
 pub mod verify;
+pub mod walks;

@@ -9,12 +9,12 @@ ghost use Rattle.bt_meaning.specs.Prints.{emitted, lost_after, of_maps, printed_
 ghost use Rattle.bt_meaning.specs.Texts.{EmitOwn};
 ghost use Rattle.account_check.specs.Differences.{DifferAt};
 
+use account_steps::check::Told;
 use bt_core::memory::Memory;
 use bt_core::step::{Op, Step};
 use map_printer::item_text::write_item;
 use map_printer::printing::print_end;
 use std::alloc::Global;
-use step_check::check::Told;
 use typed_tree::script::Typed;
 
 /// Writes the text of what a step emits.

@@ -11,12 +11,12 @@ use crate::checking::found_of;
 use crate::reading::{Written, read};
 use crate::text::{first_difference, text_of};
 use account_format::error::AccountError;
+use account_steps::check::Checked;
 use bt_ast::attached::Attached;
 use bt_core::items::Items;
 use bt_core::step::Step;
 use recordings::recording::Recording;
 use std::alloc::Global;
-use step_check::check::Checked;
 use total_laws::call_laws::programs_make_such_calls;
 use typed_tree::script::Typed;
 

@@ -13,7 +13,7 @@ use Rattle.bt_core.specs.declared.step.Op.TheVariants.{Emit}
 use Rattle.bt_core.specs.declared.step.Reply.TheVariants.{Done}
 use Rattle.bt_core.specs.declared.step.Step.{Step}
 use Rattle.bt_core.specs.Ports.{Setting, CanStep}
-use Rattle.blank_steps.specs.Blank.{blank, blank_op}
+use Rattle.step_entries.specs.Blank.{blank, blank_op}
 use Rattle.account_format.specs.Entries.{call_bytes, IsAtHome, FitsOp, IsTold, IsEntry}
 use Rattle.account_format.specs.Accounts.{entries_bytes, account_bytes, IsAccount}
 use Rattle.account_format.proofs.AccountLaws.{one_account}

@@ -22,7 +22,7 @@ use Rattle.map_ops.proofs.PartLaws.{part_below}
 use Rattle.recordings.specs.Fronts.{◌>>=◌, where_true, number_at}
 use Rattle.recordings.proofs.Fields.{IsBytes, bind_some, where_true_some, Takes, Takes-then, wide32, wide64, number_takes, number_again}
 use Rattle.recordings.proofs.PartLaws.{bind_to}
-use Rattle.blank_steps.specs.Blank.{blank_op}
+use Rattle.step_entries.specs.Blank.{blank_op}
 use Rattle.account_format.specs.Entries.{of_map, call_bytes, IsAtHome, FitsKey, FitsOp, FitsObject}
 use Rattle.account_format.specs.Reading.{table_map_at, keyed_at, key_at, value_at, part_at, table_at, get_at, set_at, delete_at, sweep_at, add_at, read_at, clear_of_at, zero_of_at, cross_at, kind_at, call_of_kind}
 use Rattle.account_format.specs.declared.kind.Kind.{Kind}

@@ -12,7 +12,7 @@ use Rattle.bt_core.specs.declared.step.Step.{Step}
 use Rattle.bt_core.specs.declared.value.Value.{Value}
 use Rattle.bt_core.specs.KeyBytes.{FitsValue, key_bytes, value_bytes, part_of}
 use Rattle.bt_core.specs.Ports.{Setting, CanStep}
-use Rattle.blank_steps.specs.Blank.{blank}
+use Rattle.step_entries.specs.Blank.{blank}
 
 -- a kind and a map
 abbrev pub of_map : ℕ → MapId → List ℕ

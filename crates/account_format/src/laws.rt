@@ -3,7 +3,7 @@ ghost use Rattle.std.specs.Prelude.{◌≡◌, ◌<◌, ◌^◌, ℕ, List, leng
 ghost use Rattle.std.specs.List.{AllByRecursion};
 ghost use Rattle.bt_core.specs.declared.step.Step.{Step};
 ghost use Rattle.bt_core.specs.Ports.{Setting};
-ghost use Rattle.blank_steps.specs.Blank.{blank};
+ghost use Rattle.step_entries.specs.Blank.{blank};
 ghost use Rattle.account_format.specs.Entries.{IsTold};
 ghost use Rattle.account_format.specs.Accounts.{account_bytes};
 

@@ -26,9 +26,9 @@ use Rattle.bt_meaning.specs.Serial.{unstamped, then_value, begun_steps, taken_st
 use Rattle.bt_meaning.proofs.Eachs.{each_so, each_back, filter_none}
 use Rattle.bt_meaning.proofs.ItemByItem.{takes_all}
 use Rattle.bt_meaning.proofs.Stepping.{own_part, other_part, takes_whole, unstamped_append, unstamped_length, unstamped_of_actor, unstamped_on_object, unstamped_operations}
-use Rattle.run_base.specs.declared.job.Job.{Job}
+use Rattle.run_output.specs.declared.job.Job.{Job}
 use Rattle.run_objects.specs.declared.closed.Closed.{Closed}
-use Rattle.run_base.specs.Jobs.{cpus_in, replay_with, world_for}
+use Rattle.run_output.specs.Jobs.{cpus_in, replay_with, world_for}
 use Rattle.bt_run.specs.Made.{IsMade}
 use Rattle.run_objects.specs.Worlds.{answers}
 use Rattle.bt_run.proofs.TakeLemmas.{each_recursion}

@@ -46,20 +46,20 @@ use Rattle.bt_meaning.specs.Walks.{replay_of}
 use Rattle.bt_meaning.proofs.OwnCalls.{all_fine, script_steps}
 use Rattle.bt_meaning.proofs.SerialLaws.{serial_interleaves}
 use Rattle.bpf_insn.specs.declared.insn.Insn.{Insn}
-use Rattle.code_bodies.specs.Agree.{AllReplies}
-use Rattle.code_bodies.specs.HeldReplies.{IsHeldReply}
-use Rattle.code_bodies.specs.Coding.{code_replay, coding}
-use Rattle.code_bodies.specs.Programs.{AreCodesOf}
+use Rattle.code_runs.specs.Agree.{AllReplies}
+use Rattle.code_runs.specs.HeldReplies.{IsHeldReply}
+use Rattle.code_runs.specs.Coding.{code_replay, coding}
+use Rattle.code_runs.specs.Programs.{AreCodesOf}
 use Rattle.step_list.specs.declared.list.StepList.{StepList}
 use Rattle.step_list.specs.Lists.{steps_in}
 use Rattle.weave.specs.Listed.{listed}
-use Rattle.run_base.specs.declared.job.Job.{Job}
+use Rattle.run_output.specs.declared.job.Job.{Job}
 use Rattle.run_objects.specs.declared.closed.Closed.{Closed}
-use Rattle.run_base.specs.Jobs.{cpus_in, world_for}
-use Rattle.run_base.specs.declared.form.Form.{Form}
-use Rattle.run_base.specs.declared.form.Form.TheVariants.{Text, Json}
-use Rattle.run_base.specs.JsonLines.{json_text_of}
-use Rattle.run_base.specs.Outputs.{output_of}
+use Rattle.run_output.specs.Jobs.{cpus_in, world_for}
+use Rattle.run_output.specs.declared.form.Form.{Form}
+use Rattle.run_output.specs.declared.form.Form.TheVariants.{Text, Json}
+use Rattle.run_output.specs.JsonLines.{json_text_of}
+use Rattle.run_output.specs.Outputs.{output_of}
 use Rattle.bt_run.specs.Made.{IsMade}
 use Rattle.run_objects.specs.Closed.{AreClosedAt}
 use Rattle.bt_run.specs.Ran.{HasRun}

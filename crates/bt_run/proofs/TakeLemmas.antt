@@ -18,13 +18,13 @@ use Rattle.bt_meaning.specs.declared.schedule.Scheduled.{Scheduled}
 use Rattle.bt_meaning.specs.Replays.{Replay, answers_of, begin_of, end_of}
 use Rattle.bt_meaning.specs.Schedules.{serial_order, cpu_of_due, item_of_due}
 use Rattle.bt_meaning.specs.Serial.{unstamped, then_steps, then_value, alone, alone_on, taken, begun_steps, taken_steps, serial_steps}
-use Rattle.run_base.specs.declared.job.Job.{Job}
+use Rattle.run_output.specs.declared.job.Job.{Job}
 use Rattle.run_objects.specs.declared.closed.Closed.{Closed}
 use Rattle.run_objects.specs.declared.objects.Objects.{Objects}
 use Rattle.run_objects.specs.Closed.{MapsStand}
 use Rattle.run_objects.specs.Objects.{Stand}
 use Rattle.bt_run.specs.Counts.{taken_count, TakesNext}
-use Rattle.run_base.specs.Jobs.{cpus_in, replay_with, world_for, CanRunAll}
+use Rattle.run_output.specs.Jobs.{cpus_in, replay_with, world_for, CanRunAll}
 use Rattle.bt_run.specs.Made.{IsMade}
 use Rattle.bt_run.specs.Runs.{Seen, IsSeen, IsRunOf, IsLeft}
 use Rattle.run_objects.specs.Worlds.{World, setting_in, answers}

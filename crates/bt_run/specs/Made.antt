@@ -6,10 +6,10 @@ use Rattle.turn_lock.specs.History.{Each}
 use Rattle.weave.specs.Woven.{StampsFollow, StandsBetween}
 use Rattle.actor_plan.specs.Plans.{Plan}
 use Rattle.bt_meaning.specs.Serial.{unstamped, begun_steps, serial_steps}
-use Rattle.run_base.specs.declared.job.Job.{Job}
+use Rattle.run_output.specs.declared.job.Job.{Job}
 use Rattle.run_objects.specs.declared.closed.Closed.{Closed}
 use Rattle.bt_run.specs.Counts.{serial_count}
-use Rattle.run_base.specs.Jobs.{cpus_in, replay_with, world_for}
+use Rattle.run_output.specs.Jobs.{cpus_in, replay_with, world_for}
 use Rattle.run_objects.specs.Closed.{MapsStand}
 use Rattle.run_objects.specs.Worlds.{answers, IsOwn}
 

@@ -10,12 +10,12 @@ use Rattle.bt_meaning.specs.Prints.{operations_at}
 use Rattle.bt_meaning.specs.Serial.{serial_steps, unstamped}
 use Rattle.bt_meaning.specs.Texts.{EmitOwn}
 use Rattle.bt_meaning.specs.Walks.{replay_of}
-use Rattle.code_bodies.specs.Coding.{code_replay}
-use Rattle.code_bodies.specs.Programs.{AreCodesOf}
-use Rattle.run_base.specs.declared.job.Job.{Job}
-use Rattle.run_base.specs.Jobs.{cpus_in, world_for}
-use Rattle.run_base.specs.declared.form.Form.{Form}
-use Rattle.run_base.specs.Outputs.{output_of}
+use Rattle.code_runs.specs.Coding.{code_replay}
+use Rattle.code_runs.specs.Programs.{AreCodesOf}
+use Rattle.run_output.specs.declared.job.Job.{Job}
+use Rattle.run_output.specs.Jobs.{cpus_in, world_for}
+use Rattle.run_output.specs.declared.form.Form.{Form}
+use Rattle.run_output.specs.Outputs.{output_of}
 use Rattle.bt_run.specs.declared.run.Ran.{Ran}
 use Rattle.run_objects.specs.Closed.{AreClosedAt}
 

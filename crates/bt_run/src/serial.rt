@@ -1,13 +1,13 @@
 // The run on one thread, up to its list of steps.
 ghost use Rattle.std.specs.Prelude.{◌≡◌, ◌+◌, ◌<◌, [], true, false, length, map, replicate, slice_index_or, IfOk, OnOk};
 ghost use Rattle.std.specs.List.{AllByRecursion};
-ghost use Rattle.code_bodies.specs.Coding.{CanRunCode};
+ghost use Rattle.code_runs.specs.Coding.{CanRunCode};
 ghost use Rattle.bt_meaning.specs.Schedules.{serial_order, cpu_of_due as due_cpu, item_of_due as due_item};
 ghost use Rattle.bt_meaning.specs.Replays.{begin_of, end_of};
 ghost use Rattle.bt_meaning.specs.Serial.{unstamped, then_steps, then_value, taken};
 ghost use Rattle.step_list.specs.Lists.{steps_in};
 ghost use Rattle.bt_run.specs.Counts.{taken_count, TakesNext};
-ghost use Rattle.run_base.specs.Jobs.{coded_by, cpus_in, plans_by, world_for, CanRunAll};
+ghost use Rattle.run_output.specs.Jobs.{coded_by, cpus_in, plans_by, world_for, CanRunAll};
 ghost use Rattle.bt_run.specs.Made.{IsMade};
 ghost use Rattle.run_objects.specs.Objects.{Stand};
 ghost use Rattle.bt_run.specs.Runs.{first_turn};
@@ -19,10 +19,10 @@ use bpf_interp::code::Code;
 use bt_core::memory::{Memory, sum};
 use bt_meaning::schedule::{Due, Schedule, Scheduled};
 use recordings::recording::Recording;
-use run_base::bodies::bodies_at;
-use run_base::job::Job;
 use run_objects::closed::Closed;
 use run_objects::objects::Objects;
+use run_output::bodies::bodies_at;
+use run_output::job::Job;
 use std::alloc::Global;
 use step_list::list::StepList;
 

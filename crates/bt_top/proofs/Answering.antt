@@ -5,29 +5,29 @@ use Rattle.std.specs.Io.KnownBytes.{Keeps}
 use Rattle.std.proofs.lemmas.Bool.{false≢true}
 use Rattle.bt_words.specs.declared.order.Order.{Order}
 use Rattle.bt_words.specs.declared.order.Order.TheVariants.{Run, Check, Code, Vet, Account, Verify, Gen, Big}
-use Rattle.run_base.specs.declared.job.Job.{Job}
-use Rattle.run_base.specs.declared.job.Work.{Work}
-use Rattle.run_base.specs.declared.form.Form.{Form}
-use Rattle.run_base.specs.declared.form.Form.TheVariants.{Text}
+use Rattle.run_output.specs.declared.job.Job.{Job}
+use Rattle.run_output.specs.declared.job.Work.{Work}
+use Rattle.run_output.specs.declared.form.Form.{Form}
+use Rattle.run_output.specs.declared.form.Form.TheVariants.{Text}
 use Rattle.account_format.specs.declared.error.AccountError.{AccountError}
 use Rattle.bt_core.specs.declared.step.Step.{Step}
-use Rattle.bt_refusal.specs.declared.refusal.Denial.{Denial}
-use Rattle.bt_refusal.specs.declared.refusal.Denial.TheVariants as denial
-use Rattle.bt_refusal.specs.declared.refusal.Operand.{Operand}
-use Rattle.bt_refusal.specs.declared.refusal.Operand.TheVariants as operand
-use Rattle.bt_refusal.specs.declared.refusal.RecordingRefusal.TheVariants as recording
-use Rattle.bt_refusal.specs.declared.refusal.ScriptRefusal.TheVariants as script
-use Rattle.bt_refusal.specs.declared.refusal.Refusal.{Refusal}
-use Rattle.bt_refusal.specs.declared.refusal.Refusal.TheVariants.{Usage, Script, Recording, ReadFault, WriteFault, Memory, LongAccount, Denied}
-use Rattle.bt_judge.specs.Doing.{ComesOfFiles}
-use Rattle.bt_judge.specs.Due.{IsDue, IsFinding, IsTooLong}
-use Rattle.bt_judge.specs.Jobs.{IsJobFor}
-use Rattle.bt_refusal.specs.Lines.{SinkUse, SinkFailed}
-use Rattle.bt_refusal.specs.Orders.{OperandFile, files_of}
-use Rattle.bt_judge.specs.Reads.{ShelfUse, ShelfFailed, AreContentsOf, MayCome, MayStandFor, ComesIfDue, OnTold, IsReached, AsksExactly}
-use Rattle.bt_refusal.specs.Refusals.{status_of, too_long}
-use Rattle.bt_judge.proofs.Due.{job_accepted}
-use Rattle.bt_judge.proofs.Reading.{are_others, others_of}
+use Rattle.top_refusals.specs.declared.refusal.Denial.{Denial}
+use Rattle.top_refusals.specs.declared.refusal.Denial.TheVariants as denial
+use Rattle.top_refusals.specs.declared.refusal.Operand.{Operand}
+use Rattle.top_refusals.specs.declared.refusal.Operand.TheVariants as operand
+use Rattle.top_refusals.specs.declared.refusal.RecordingRefusal.TheVariants as recording
+use Rattle.top_refusals.specs.declared.refusal.ScriptRefusal.TheVariants as script
+use Rattle.top_refusals.specs.declared.refusal.Refusal.{Refusal}
+use Rattle.top_refusals.specs.declared.refusal.Refusal.TheVariants.{Usage, Script, Recording, ReadFault, WriteFault, Memory, LongAccount, Denied}
+use Rattle.top_jobs.specs.Doing.{ComesOfFiles}
+use Rattle.top_jobs.specs.Due.{IsDue, IsFinding, IsTooLong}
+use Rattle.top_jobs.specs.Jobs.{IsJobFor}
+use Rattle.top_refusals.specs.Lines.{SinkUse, SinkFailed}
+use Rattle.top_refusals.specs.Orders.{OperandFile, files_of}
+use Rattle.top_jobs.specs.Reads.{ShelfUse, ShelfFailed, AreContentsOf, MayCome, MayStandFor, ComesIfDue, OnTold, IsReached, AsksExactly}
+use Rattle.top_refusals.specs.Refusals.{status_of, too_long}
+use Rattle.top_jobs.proofs.Due.{job_accepted}
+use Rattle.top_jobs.proofs.Reading.{are_others, others_of}
 use Rattle.bt_top.specs.declared.outcome.Outcome.{Outcome}
 use Rattle.bt_top.specs.declared.report.Report.{Report}
 use Rattle.bt_top.specs.Writing.{Wrote}

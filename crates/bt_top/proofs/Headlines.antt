@@ -22,28 +22,28 @@ use Rattle.bt_meaning.specs.Walks.{replay_of}
 use Rattle.bt_types.specs.Script.{IsTypedScript}
 use Rattle.bt_words.specs.declared.order.Order.{Order}
 use Rattle.bt_words.specs.declared.order.Order.TheVariants.{Run, Check, Code, Vet, Account, Verify, Gen, Big}
-use Rattle.run_base.specs.declared.job.Job.{Job}
-use Rattle.run_base.specs.declared.job.Work.{Work}
+use Rattle.run_output.specs.declared.job.Job.{Job}
+use Rattle.run_output.specs.declared.job.Work.{Work}
 use Rattle.total_laws.specs.Reads.{AddsAreOwn, ReadsSeeBeginnings}
-use Rattle.run_base.specs.declared.form.Form.{Form}
-use Rattle.run_base.specs.declared.form.Form.TheVariants.{Text}
+use Rattle.run_output.specs.declared.form.Form.{Form}
+use Rattle.run_output.specs.declared.form.Form.TheVariants.{Text}
 use Rattle.recordings.specs.declared.recording.Recording.{Recording as Recorded}
 use Rattle.recordings.specs.Recordings.{IsValidRecording}
 use Rattle.rec_gen.specs.Made.{IsMade}
-use Rattle.code_bodies.specs.Programs.{KeepScript}
+use Rattle.code_runs.specs.Programs.{KeepScript}
 use Rattle.total_laws.specs.Ends.{EndsWithTotals, IsAddingRun}
 use Rattle.typed_tree.specs.declared.script.Typed.{Typed}
-use Rattle.bt_refusal.specs.declared.refusal.Denial.{Denial}
-use Rattle.bt_refusal.specs.declared.refusal.Denial.TheVariants as denial
-use Rattle.bt_refusal.specs.declared.refusal.Refusal.{Refusal}
-use Rattle.bt_refusal.specs.declared.refusal.Refusal.TheVariants.{Usage, Script, Recording, ReadFault, WriteFault, Memory, LongAccount, Denied}
-use Rattle.bt_judge.specs.Jobs.{IsJobFor, meaning_in}
-use Rattle.bt_refusal.specs.Lines.{SinkUse}
-use Rattle.bt_refusal.specs.Orders.{OperandFile, files_of}
-use Rattle.bt_judge.specs.Reads.{ShelfUse, AreContentsOf}
-use Rattle.bt_refusal.specs.Refusals.{status_of}
-use Rattle.bt_judge.proofs.Asked.{can_run, of_files}
-use Rattle.bt_judge.proofs.OneMeaning.{means_files, means_job}
+use Rattle.top_refusals.specs.declared.refusal.Denial.{Denial}
+use Rattle.top_refusals.specs.declared.refusal.Denial.TheVariants as denial
+use Rattle.top_refusals.specs.declared.refusal.Refusal.{Refusal}
+use Rattle.top_refusals.specs.declared.refusal.Refusal.TheVariants.{Usage, Script, Recording, ReadFault, WriteFault, Memory, LongAccount, Denied}
+use Rattle.top_jobs.specs.Jobs.{IsJobFor, meaning_in}
+use Rattle.top_refusals.specs.Lines.{SinkUse}
+use Rattle.top_refusals.specs.Orders.{OperandFile, files_of}
+use Rattle.top_jobs.specs.Reads.{ShelfUse, AreContentsOf}
+use Rattle.top_refusals.specs.Refusals.{status_of}
+use Rattle.top_jobs.proofs.Asked.{can_run, of_files}
+use Rattle.top_jobs.proofs.OneMeaning.{means_files, means_job}
 use Rattle.bt_top.specs.declared.outcome.Outcome.{Outcome}
 use Rattle.bt_top.specs.Writing.{Wrote}
 use Rattle.bt_top.specs.Headline.{AccountsOfFiles, AreStepsOf, Headline, IsSerialList, OnlyAdds, PrintsItsSteps, PrintsItsTotals, PrintsOfFiles, RanPrograms}

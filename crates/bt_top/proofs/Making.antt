@@ -8,7 +8,7 @@ use Rattle.bt_ast.specs.declared.attached.Attached.{Attached}
 use Rattle.bt_ast.specs.declared.attached.BodyId.{BodyId}
 use Rattle.bt_ast.specs.declared.probe.Script.{Script as Tree}
 use Rattle.bt_attach.specs.Attaching.{IsAttachedTo}
-use Rattle.run_base.specs.declared.job.Job.{Job}
+use Rattle.run_output.specs.declared.job.Job.{Job}
 use Rattle.bt_types.specs.Script.{IsTypedScript}
 use Rattle.recordings.specs.declared.recording.Recording.{Recording as Recorded}
 use Rattle.script_programs.specs.declared.error.SizeFault.{SizeFault}
@@ -18,13 +18,13 @@ use Rattle.bt_attach.specs.Attaching.{attach_fault}
 use Rattle.bt_meaning.specs.Jobs.{IsJob}
 use Rattle.recordings.specs.Recordings.{IsValidRecording}
 use Rattle.rec_gen.specs.Made.{IsMade}
-use Rattle.bt_refusal.specs.declared.refusal.Refusal.{Refusal}
-use Rattle.bt_refusal.specs.declared.refusal.Refusal.TheVariants.{Memory}
-use Rattle.bt_judge.specs.Doing.{IsScriptRefusal}
-use Rattle.bt_judge.specs.Jobs.{AsksFor}
-use Rattle.bt_judge.specs.Script.{HasTree, IsScriptFault, IsSizeFault}
-use Rattle.bt_judge.proofs.Asked.{can_run, IsAskedFor}
-use Rattle.bt_judge.proofs.Scripts.{AreScriptLaws, attach_apart, no_tree, type_apart}
+use Rattle.top_refusals.specs.declared.refusal.Refusal.{Refusal}
+use Rattle.top_refusals.specs.declared.refusal.Refusal.TheVariants.{Memory}
+use Rattle.top_jobs.specs.Doing.{IsScriptRefusal}
+use Rattle.top_jobs.specs.Jobs.{AsksFor}
+use Rattle.top_jobs.specs.Script.{HasTree, IsScriptFault, IsSizeFault}
+use Rattle.top_jobs.proofs.Asked.{can_run, IsAskedFor}
+use Rattle.top_jobs.proofs.Scripts.{AreScriptLaws, attach_apart, no_tree, type_apart}
 use Rattle.bt_top.specs.Jobs.{IsBigJob}
 
 -- the job of the built-in script

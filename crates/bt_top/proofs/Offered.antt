@@ -7,13 +7,13 @@ use Rattle.account_format.specs.declared.error.AccountError.{AccountError}
 use Rattle.bt_core.specs.declared.step.Step.{Step}
 use Rattle.bt_words.specs.declared.order.Order.{Order}
 use Rattle.bt_words.specs.declared.order.Order.TheVariants.{Run, Check, Code, Vet, Account, Verify, Gen, Big}
-use Rattle.run_base.specs.declared.job.Job.{Job}
-use Rattle.bt_refusal.specs.declared.refusal.Denial.{Denial}
-use Rattle.bt_refusal.specs.declared.refusal.Refusal.{Refusal}
-use Rattle.bt_refusal.specs.declared.refusal.Refusal.TheVariants.{Usage, Script, Recording, ReadFault, WriteFault, Memory, LongAccount, Denied}
-use Rattle.bt_refusal.specs.Lines.{SinkUse}
-use Rattle.bt_refusal.specs.Orders.{OperandFile}
-use Rattle.bt_judge.specs.Reads.{MayCome}
+use Rattle.run_output.specs.declared.job.Job.{Job}
+use Rattle.top_refusals.specs.declared.refusal.Denial.{Denial}
+use Rattle.top_refusals.specs.declared.refusal.Refusal.{Refusal}
+use Rattle.top_refusals.specs.declared.refusal.Refusal.TheVariants.{Usage, Script, Recording, ReadFault, WriteFault, Memory, LongAccount, Denied}
+use Rattle.top_refusals.specs.Lines.{SinkUse}
+use Rattle.top_refusals.specs.Orders.{OperandFile}
+use Rattle.top_jobs.specs.Reads.{MayCome}
 use Rattle.bt_top.specs.declared.outcome.Outcome.{Outcome}
 use Rattle.bt_top.specs.Writing.{Wrote}
 use Rattle.bt_top.specs.Offered.{IsOffered, OffersBoth, text_shown}

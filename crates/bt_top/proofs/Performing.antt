@@ -15,25 +15,25 @@ use Rattle.bt_words.specs.declared.order.Order.{Order}
 use Rattle.bt_words.specs.declared.order.Order.TheVariants.{Run, Check, Code, Vet, Account, Verify, Gen, Big}
 use Rattle.recordings.specs.declared.recording.Recording.{Recording as Recorded}
 use Rattle.recordings.specs.Recordings.{recording_bytes}
-use Rattle.run_base.specs.declared.job.Job.{Job}
-use Rattle.run_base.specs.declared.job.Work.{Work}
-use Rattle.run_base.specs.declared.form.Form.{Form}
-use Rattle.run_base.specs.declared.form.Form.TheVariants.{Text}
+use Rattle.run_output.specs.declared.job.Job.{Job}
+use Rattle.run_output.specs.declared.job.Work.{Work}
+use Rattle.run_output.specs.declared.form.Form.{Form}
+use Rattle.run_output.specs.declared.form.Form.TheVariants.{Text}
 use Rattle.bt_ast.specs.declared.attached.BodyId.{BodyId}
 use Rattle.event_layout.specs.declared.format.Format.{Format}
-use Rattle.bt_refusal.specs.declared.refusal.Refusal.{Refusal}
-use Rattle.bt_refusal.specs.declared.refusal.Refusal.TheVariants.{Memory}
-use Rattle.bt_refusal.specs.declared.refusal.CodeRefusal.{CodeRefusal}
-use Rattle.bt_refusal.specs.declared.refusal.Denial.{Denial}
-use Rattle.bt_refusal.specs.declared.refusal.Denial.TheVariants as denial
-use Rattle.bt_judge.specs.declared.vetting.Verdict.{Verdict}
-use Rattle.bt_judge.specs.declared.vetting.Verdict.TheVariants.{Accepted, Refused}
-use Rattle.bt_judge.specs.Doing.{ComesOfFiles}
-use Rattle.bt_judge.specs.FailedNames.{FailsNamed}
-use Rattle.bt_refusal.specs.Lines.{SinkUse}
-use Rattle.bt_refusal.specs.Orders.{OperandFile, files_of, names_of}
-use Rattle.bt_judge.specs.Reads.{ShelfUse, AsksExactly, AsksFirst, ComesIfDue, OnTold}
-use Rattle.bt_judge.specs.Vetting.{IsVerdict}
+use Rattle.top_refusals.specs.declared.refusal.Refusal.{Refusal}
+use Rattle.top_refusals.specs.declared.refusal.Refusal.TheVariants.{Memory}
+use Rattle.top_refusals.specs.declared.refusal.CodeRefusal.{CodeRefusal}
+use Rattle.top_refusals.specs.declared.refusal.Denial.{Denial}
+use Rattle.top_refusals.specs.declared.refusal.Denial.TheVariants as denial
+use Rattle.top_jobs.specs.declared.vetting.Verdict.{Verdict}
+use Rattle.top_jobs.specs.declared.vetting.Verdict.TheVariants.{Accepted, Refused}
+use Rattle.top_jobs.specs.Doing.{ComesOfFiles}
+use Rattle.top_jobs.specs.FailedNames.{FailsNamed}
+use Rattle.top_refusals.specs.Lines.{SinkUse}
+use Rattle.top_refusals.specs.Orders.{OperandFile, files_of, names_of}
+use Rattle.top_jobs.specs.Reads.{ShelfUse, AsksExactly, AsksFirst, ComesIfDue, OnTold}
+use Rattle.top_jobs.specs.Vetting.{IsVerdict}
 use Rattle.bt_top.specs.declared.outcome.Outcome.{Outcome}
 use Rattle.bt_top.specs.Jobs.{IsWorkOf}
 use Rattle.bt_top.specs.Outcomes.{IsOutcomeOfAccount, IsOutcomeOfRun, IsOutcomeOfVerify, gen_outcome, plain_outcome, run_outcome, verify_outcome, IsOutcomeOfVet}

@@ -8,22 +8,22 @@ use Rattle.bt_core.specs.declared.step.Step.{Step}
 use Rattle.bt_core.specs.Want.{out_of_memory}
 use Rattle.bt_words.specs.declared.order.Order.{Order}
 use Rattle.bt_words.specs.declared.order.Order.TheVariants.{Run, Check, Code, Vet, Account, Verify, Gen, Big}
-use Rattle.run_base.specs.declared.job.Job.{Job}
-use Rattle.bt_refusal.specs.declared.refusal.Denial.{Denial}
-use Rattle.bt_refusal.specs.declared.refusal.Denial.TheVariants as denial
-use Rattle.bt_refusal.specs.declared.refusal.Operand.{Operand}
-use Rattle.bt_refusal.specs.declared.refusal.Operand.TheVariants as operand
-use Rattle.bt_refusal.specs.declared.refusal.RecordingRefusal.TheVariants as recording
-use Rattle.bt_refusal.specs.declared.refusal.ScriptRefusal.TheVariants as script
-use Rattle.bt_refusal.specs.declared.refusal.Refusal.{Refusal}
-use Rattle.bt_refusal.specs.declared.refusal.Refusal.TheVariants.{Usage, Script, Recording, ReadFault, WriteFault, Memory, LongAccount, Denied}
-use Rattle.bt_judge.specs.Due.{IsDue, IsFinding, IsTooLong}
-use Rattle.bt_judge.specs.Jobs.{IsJobFor, meaning_in, account_in}
-use Rattle.bt_refusal.specs.Lines.{SinkUse}
-use Rattle.bt_refusal.specs.Orders.{OperandFile, files_of, on_account, on_script}
-use Rattle.bt_judge.specs.Reads.{ShelfUse, ShelfFailed, AreContentsOf, MayCome}
-use Rattle.bt_refusal.specs.Refusals.{status_of, too_long}
-use Rattle.bt_judge.proofs.OneMeaning.{means_files}
+use Rattle.run_output.specs.declared.job.Job.{Job}
+use Rattle.top_refusals.specs.declared.refusal.Denial.{Denial}
+use Rattle.top_refusals.specs.declared.refusal.Denial.TheVariants as denial
+use Rattle.top_refusals.specs.declared.refusal.Operand.{Operand}
+use Rattle.top_refusals.specs.declared.refusal.Operand.TheVariants as operand
+use Rattle.top_refusals.specs.declared.refusal.RecordingRefusal.TheVariants as recording
+use Rattle.top_refusals.specs.declared.refusal.ScriptRefusal.TheVariants as script
+use Rattle.top_refusals.specs.declared.refusal.Refusal.{Refusal}
+use Rattle.top_refusals.specs.declared.refusal.Refusal.TheVariants.{Usage, Script, Recording, ReadFault, WriteFault, Memory, LongAccount, Denied}
+use Rattle.top_jobs.specs.Due.{IsDue, IsFinding, IsTooLong}
+use Rattle.top_jobs.specs.Jobs.{IsJobFor, meaning_in, account_in}
+use Rattle.top_refusals.specs.Lines.{SinkUse}
+use Rattle.top_refusals.specs.Orders.{OperandFile, files_of, on_account, on_script}
+use Rattle.top_jobs.specs.Reads.{ShelfUse, ShelfFailed, AreContentsOf, MayCome}
+use Rattle.top_refusals.specs.Refusals.{status_of, too_long}
+use Rattle.top_jobs.proofs.OneMeaning.{means_files}
 use Rattle.bt_top.specs.declared.outcome.Outcome.{Outcome}
 use Rattle.bt_top.specs.Writing.{Wrote, WroteBytes}
 use Rattle.bt_top.specs.Outcomes.{ComesTo, IsOutcomeOfVerify, bytes_written, verify_outcome}

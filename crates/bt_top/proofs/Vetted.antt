@@ -4,19 +4,19 @@ use Rattle.std.specs.Prelude.{Option, Some, None}
 use Rattle.bpf_encode.specs.declared.program.Program.{Program}
 use Rattle.bt_words.specs.declared.order.Order.{Order}
 use Rattle.bt_words.specs.declared.order.Order.TheVariants.{Run, Check, Code, Vet, Account, Verify, Gen, Big}
-use Rattle.run_base.specs.declared.job.Job.{Job}
+use Rattle.run_output.specs.declared.job.Job.{Job}
 use Rattle.typed_tree.specs.declared.script.Typed.{Typed}
-use Rattle.bt_refusal.specs.declared.refusal.CodeRefusal.{CodeRefusal}
-use Rattle.bt_refusal.specs.declared.refusal.Denial.{Denial}
-use Rattle.bt_refusal.specs.declared.refusal.Denial.TheVariants as denial
-use Rattle.bt_refusal.specs.declared.refusal.Refusal.{Refusal}
-use Rattle.bt_refusal.specs.declared.refusal.Refusal.TheVariants.{Usage, Script, Recording, ReadFault, WriteFault, Memory, LongAccount, Denied}
-use Rattle.bt_judge.specs.Jobs.{IsJobFor}
-use Rattle.bt_refusal.specs.Lines.{SinkUse}
-use Rattle.bt_refusal.specs.Orders.{OperandFile, files_of, on_script}
-use Rattle.bt_judge.specs.Reads.{ShelfUse, ShelfFailed, AreContentsOf, MayCome}
-use Rattle.bt_refusal.specs.Refusals.{status_of}
-use Rattle.bt_judge.specs.Vetting.{AllPass, IsFirstRefused}
+use Rattle.top_refusals.specs.declared.refusal.CodeRefusal.{CodeRefusal}
+use Rattle.top_refusals.specs.declared.refusal.Denial.{Denial}
+use Rattle.top_refusals.specs.declared.refusal.Denial.TheVariants as denial
+use Rattle.top_refusals.specs.declared.refusal.Refusal.{Refusal}
+use Rattle.top_refusals.specs.declared.refusal.Refusal.TheVariants.{Usage, Script, Recording, ReadFault, WriteFault, Memory, LongAccount, Denied}
+use Rattle.top_jobs.specs.Jobs.{IsJobFor}
+use Rattle.top_refusals.specs.Lines.{SinkUse}
+use Rattle.top_refusals.specs.Orders.{OperandFile, files_of, on_script}
+use Rattle.top_jobs.specs.Reads.{ShelfUse, ShelfFailed, AreContentsOf, MayCome}
+use Rattle.top_refusals.specs.Refusals.{status_of}
+use Rattle.top_jobs.specs.Vetting.{AllPass, IsFirstRefused}
 use Rattle.bt_top.specs.declared.outcome.Outcome.{Outcome}
 use Rattle.bt_top.specs.Writing.{Wrote, WroteBytes}
 use Rattle.bt_top.specs.Outcomes.{ComesTo, IsOutcomeOfVet, accepted_outcome, bytes_written, refused_outcome}

@@ -17,18 +17,18 @@ use Rattle.bt_meaning.specs.Ticks.{TicksComeAfter}
 use Rattle.bt_meaning.specs.Totals.{IsAggregationOnly}
 use Rattle.bt_words.specs.declared.order.Order.{Order}
 use Rattle.bt_words.specs.declared.order.Order.TheVariants.{Run, Account, Big}
-use Rattle.code_bodies.specs.Coding.{code_replay}
-use Rattle.run_base.specs.declared.job.Work.{Work}
+use Rattle.code_runs.specs.Coding.{code_replay}
+use Rattle.run_output.specs.declared.job.Work.{Work}
 use Rattle.total_laws.specs.Reads.{AddsAreOwn, ReadsSeeBeginnings}
-use Rattle.run_base.specs.declared.form.Form.{Form}
-use Rattle.run_base.specs.declared.form.Form.TheVariants.{Text}
-use Rattle.run_base.specs.Outputs.{output_of}
-use Rattle.code_bodies.specs.Programs.{AreCodesOf, KeepScript}
+use Rattle.run_output.specs.declared.form.Form.{Form}
+use Rattle.run_output.specs.declared.form.Form.TheVariants.{Text}
+use Rattle.run_output.specs.Outputs.{output_of}
+use Rattle.code_runs.specs.Programs.{AreCodesOf, KeepScript}
 use Rattle.total_laws.specs.Ends.{EndsWithTotals, HaveFewKeys}
-use Rattle.bt_refusal.specs.Lines.{SinkUse}
-use Rattle.bt_judge.specs.Meanings.{Meaning, IsMeaningFor, replay_by}
-use Rattle.bt_refusal.specs.Orders.{OperandFile, files_of}
-use Rattle.bt_judge.specs.Reads.{ShelfUse, AreContentsOf}
+use Rattle.top_refusals.specs.Lines.{SinkUse}
+use Rattle.top_jobs.specs.Meanings.{Meaning, IsMeaningFor, replay_by}
+use Rattle.top_refusals.specs.Orders.{OperandFile, files_of}
+use Rattle.top_jobs.specs.Reads.{ShelfUse, AreContentsOf}
 use Rattle.bt_top.specs.declared.report.Report.{Report}
 use Rattle.bt_top.specs.Jobs.{IsBigMeaning}
 use Rattle.bt_top.specs.Outcomes.{form_of, stats_line, summary_line}

@@ -9,16 +9,16 @@ use Rattle.bt_meaning.specs.Interleavings.{IsReplayed}
 use Rattle.bt_meaning.specs.Replays.{Replay, cpus_of}
 use Rattle.bt_meaning.specs.Serial.{serial_steps, unstamped}
 use Rattle.bt_meaning.specs.Walks.{replay_of}
-use Rattle.code_bodies.specs.Coding.{code_replay}
+use Rattle.code_runs.specs.Coding.{code_replay}
 use Rattle.recordings.specs.Recordings.{IsValidRecording}
 use Rattle.rec_gen.specs.Made.{IsMade}
-use Rattle.run_base.specs.declared.job.Job.{Job}
-use Rattle.run_base.specs.declared.job.Work.{Work}
-use Rattle.run_base.specs.declared.form.Form.{Form}
-use Rattle.run_base.specs.Outputs.{output_of}
-use Rattle.code_bodies.specs.Programs.{AreCodesOf}
-use Rattle.bt_judge.specs.Jobs.{AsksFor}
-use Rattle.bt_judge.specs.Meanings.{Meaning, Means}
+use Rattle.run_output.specs.declared.job.Job.{Job}
+use Rattle.run_output.specs.declared.job.Work.{Work}
+use Rattle.run_output.specs.declared.form.Form.{Form}
+use Rattle.run_output.specs.Outputs.{output_of}
+use Rattle.code_runs.specs.Programs.{AreCodesOf}
+use Rattle.top_jobs.specs.Jobs.{AsksFor}
+use Rattle.top_jobs.specs.Meanings.{Meaning, Means}
 
 -- ---- the built-in script
 

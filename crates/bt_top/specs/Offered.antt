@@ -3,8 +3,8 @@ use Rattle.std.specs.Prelude.{ℕ, List, [], ◌++◌, length, Option, Some}
 use Rattle.bt_io.specs.Offers.{OffersAllLeft}
 use Rattle.bt_words.specs.declared.order.Order.{Order}
 use Rattle.bt_words.specs.declared.order.Order.TheVariants.{Account}
-use Rattle.run_base.specs.declared.job.Work.{Work}
-use Rattle.bt_refusal.specs.Lines.{SinkUse}
+use Rattle.run_output.specs.declared.job.Work.{Work}
+use Rattle.top_refusals.specs.Lines.{SinkUse}
 use Rattle.bt_top.specs.declared.report.Report.{Report}
 use Rattle.bt_top.specs.Outcomes.{work_text}
 use Rattle.bt_top.specs.Serve.{IsWritten}

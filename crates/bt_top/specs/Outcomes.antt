@@ -16,16 +16,16 @@ use Rattle.recordings.specs.declared.recording.Recording.{Recording as Recorded}
 use Rattle.recordings.specs.Recordings.{recording_bytes}
 use Rattle.rec_gen.specs.Made.{IsMade}
 use Rattle.json_out.specs.Lines.{json_stats_line}
-use Rattle.run_base.specs.declared.job.Job.{Job}
-use Rattle.run_base.specs.declared.job.Work.{Work}
-use Rattle.run_base.specs.declared.form.Form.{Form}
-use Rattle.run_base.specs.declared.form.Form.TheVariants.{Text, Json}
-use Rattle.bt_refusal.specs.declared.refusal.CodeRefusal.{CodeRefusal}
-use Rattle.bt_refusal.specs.declared.refusal.Denial.TheVariants as denial
-use Rattle.bt_judge.specs.Jobs.{IsJobFor, account_in}
-use Rattle.bt_judge.specs.Listings.{script_listing}
-use Rattle.bt_refusal.specs.Orders.{on_account, on_script}
-use Rattle.bt_judge.specs.Vetting.{AllPass, IsFirstRefused, vet_listing}
+use Rattle.run_output.specs.declared.job.Job.{Job}
+use Rattle.run_output.specs.declared.job.Work.{Work}
+use Rattle.run_output.specs.declared.form.Form.{Form}
+use Rattle.run_output.specs.declared.form.Form.TheVariants.{Text, Json}
+use Rattle.top_refusals.specs.declared.refusal.CodeRefusal.{CodeRefusal}
+use Rattle.top_refusals.specs.declared.refusal.Denial.TheVariants as denial
+use Rattle.top_jobs.specs.Jobs.{IsJobFor, account_in}
+use Rattle.top_jobs.specs.Listings.{script_listing}
+use Rattle.top_refusals.specs.Orders.{on_account, on_script}
+use Rattle.top_jobs.specs.Vetting.{AllPass, IsFirstRefused, vet_listing}
 use Rattle.bt_top.specs.declared.outcome.Outcome.{Outcome}
 use Rattle.bt_top.specs.Jobs.{IsBigJob, IsWorkOf}
 

@@ -9,14 +9,14 @@ use Rattle.bt_core.specs.declared.step.Step.{Step}
 use Rattle.bt_core.specs.Want.{out_of_memory}
 use Rattle.bt_words.specs.declared.order.Order.{Order}
 use Rattle.bt_words.specs.declared.order.Order.TheVariants.{Verify}
-use Rattle.bt_refusal.specs.declared.refusal.Denial.TheVariants as denial
-use Rattle.bt_refusal.specs.declared.refusal.Refusal.{Refusal}
-use Rattle.bt_refusal.specs.declared.refusal.Refusal.TheVariants.{WriteFault, LongAccount, Denied}
-use Rattle.bt_judge.specs.Jobs.{account_in}
-use Rattle.bt_refusal.specs.Lines.{SinkUse}
-use Rattle.bt_judge.specs.Meanings.{Meaning, IsMeaningFor}
-use Rattle.bt_refusal.specs.Orders.{OperandFile, on_account}
-use Rattle.bt_judge.specs.Reads.{ShelfUse, AreContentsOf}
+use Rattle.top_refusals.specs.declared.refusal.Denial.TheVariants as denial
+use Rattle.top_refusals.specs.declared.refusal.Refusal.{Refusal}
+use Rattle.top_refusals.specs.declared.refusal.Refusal.TheVariants.{WriteFault, LongAccount, Denied}
+use Rattle.top_jobs.specs.Jobs.{account_in}
+use Rattle.top_refusals.specs.Lines.{SinkUse}
+use Rattle.top_jobs.specs.Meanings.{Meaning, IsMeaningFor}
+use Rattle.top_refusals.specs.Orders.{OperandFile, on_account}
+use Rattle.top_jobs.specs.Reads.{ShelfUse, AreContentsOf}
 use Rattle.bt_top.specs.declared.report.Report.{Report}
 use Rattle.bt_top.specs.Outcomes.{verified_line}
 

@@ -5,17 +5,17 @@ use Rattle.bpf_check.specs.declared.check.CodeFault.{CodeFault}
 use Rattle.bpf_encode.specs.declared.program.Program.{Program}
 use Rattle.bt_words.specs.declared.order.Order.{Order}
 use Rattle.bt_words.specs.declared.order.Order.TheVariants.{Vet}
-use Rattle.run_base.specs.declared.job.Job.{Job}
+use Rattle.run_output.specs.declared.job.Job.{Job}
 use Rattle.typed_tree.specs.declared.script.Typed.{Typed}
-use Rattle.bt_refusal.specs.declared.refusal.CodeRefusal.{CodeRefusal}
-use Rattle.bt_refusal.specs.declared.refusal.Denial.TheVariants as denial
-use Rattle.bt_refusal.specs.declared.refusal.Refusal.{Refusal}
-use Rattle.bt_refusal.specs.declared.refusal.Refusal.TheVariants.{WriteFault, Denied}
-use Rattle.bt_judge.specs.Jobs.{IsJobFor}
-use Rattle.bt_refusal.specs.Lines.{SinkUse}
-use Rattle.bt_refusal.specs.Orders.{OperandFile, on_script}
-use Rattle.bt_judge.specs.Reads.{ShelfUse, AreContentsOf}
-use Rattle.bt_judge.specs.Vetting.{AllPass, IsFirstRefused, IsRefused, vet_listing}
+use Rattle.top_refusals.specs.declared.refusal.CodeRefusal.{CodeRefusal}
+use Rattle.top_refusals.specs.declared.refusal.Denial.TheVariants as denial
+use Rattle.top_refusals.specs.declared.refusal.Refusal.{Refusal}
+use Rattle.top_refusals.specs.declared.refusal.Refusal.TheVariants.{WriteFault, Denied}
+use Rattle.top_jobs.specs.Jobs.{IsJobFor}
+use Rattle.top_refusals.specs.Lines.{SinkUse}
+use Rattle.top_refusals.specs.Orders.{OperandFile, on_script}
+use Rattle.top_jobs.specs.Reads.{ShelfUse, AreContentsOf}
+use Rattle.top_jobs.specs.Vetting.{AllPass, IsFirstRefused, IsRefused, vet_listing}
 use Rattle.bt_top.specs.declared.report.Report.{Report}
 
 -- the check refuses one of the programs

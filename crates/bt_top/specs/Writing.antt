@@ -2,10 +2,10 @@
 use Rattle.std.specs.Prelude.{◌≡◌, ℕ, ◌⊎◌, List, Option, Some, None}
 use Rattle.std.specs.Io.KnownBytes.{Appends, Keeps}
 use Rattle.bt_io.specs.Taken.{AppendsPart}
-use Rattle.bt_refusal.specs.declared.refusal.Denial.{Denial}
-use Rattle.bt_refusal.specs.declared.refusal.Refusal.{Refusal}
-use Rattle.bt_refusal.specs.declared.refusal.Refusal.TheVariants.{WriteFault, Denied}
-use Rattle.bt_refusal.specs.Lines.{SinkUse, SinkFailed}
+use Rattle.top_refusals.specs.declared.refusal.Denial.{Denial}
+use Rattle.top_refusals.specs.declared.refusal.Refusal.{Refusal}
+use Rattle.top_refusals.specs.declared.refusal.Refusal.TheVariants.{WriteFault, Denied}
+use Rattle.top_refusals.specs.Lines.{SinkUse, SinkFailed}
 
 -- the bytes were written, or a part of them where the count of faults rose
 abbrev pub WroteBytes : SinkUse → Option Refusal → List ℕ → Type 0

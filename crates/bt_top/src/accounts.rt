@@ -2,7 +2,7 @@
 ghost use Rattle.std.specs.Prelude.{◌≡◌, ◌≢◌, Err, IfOk, OnOk};
 ghost use Rattle.bt_core.specs.Want.{out_of_memory};
 ghost use Rattle.bt_meaning.specs.Jobs.{IsJob};
-ghost use Rattle.code_bodies.specs.Programs.{KeepScript};
+ghost use Rattle.code_runs.specs.Programs.{KeepScript};
 ghost use Rattle.account_format.specs.declared.error.AccountError.TheVariants as wrong;
 ghost use Rattle.bt_top.specs.Outcomes.{account_with, IsOutcomeOfAccount, IsOutcomeOfVerify, verified_line, verify_outcome};
 
@@ -13,13 +13,13 @@ use account_format::error::AccountError;
 use account_format::writing::write_account;
 use bt_core::items::Items;
 use bt_core::memory::Memory;
-use bt_refusal::refusal::Denial;
 use itoa::Buffer;
-use run_base::form::Form;
-use run_base::job::{Job, Work};
+use run_output::form::Form;
+use run_output::job::{Job, Work};
 use std::alloc::Global;
 use std::sync::Wait;
 use std::thread::Threads;
+use top_refusals::refusal::Denial;
 use turn_lock::gate::Gate;
 
 /// The work of a job, and the account of its steps.

@@ -5,28 +5,28 @@ ghost use Rattle.recordings.specs.Recordings.{IsValidRecording};
 ghost use Rattle.rec_gen.specs.Made.{IsMade};
 ghost use Rattle.bt_words.specs.declared.order.Order.{Order};
 ghost use Rattle.bt_words.specs.Words.{AreBounded};
-ghost use Rattle.bt_judge.specs.Jobs.{AsksFor};
+ghost use Rattle.top_jobs.specs.Jobs.{AsksFor};
 ghost use Rattle.bt_top.specs.Jobs.{IsBigJob};
 ghost use Rattle.bt_top.specs.Outcomes.{ComesTo, IsOutcomeOfRun, run_outcome, summary_line};
-ghost use Rattle.code_bodies.specs.Programs.{KeepScript};
-ghost use Rattle.run_base.specs.declared.form.Form.TheVariants.{Text};
+ghost use Rattle.code_runs.specs.Programs.{KeepScript};
+ghost use Rattle.run_output.specs.declared.form.Form.TheVariants.{Text};
 
 use crate::outcome::Outcome;
 use crate::work::{programs_of, run};
 use bt_core::items::Items;
 use bt_core::memory::Memory;
-use bt_judge::judge::script_job;
-use bt_refusal::refusal::Refusal;
 use itoa::Buffer;
 use rec_format::writing::write_recording;
 use rec_gen::generate::generate;
 use rec_gen::script::SCRIPT;
 use recordings::recording::Recording;
-use run_base::form::Form;
-use run_base::job::{Job, Work};
+use run_output::form::Form;
+use run_output::job::{Job, Work};
 use std::alloc::Global;
 use std::sync::Wait;
 use std::thread::Threads;
+use top_jobs::judge::script_job;
+use top_refusals::refusal::Refusal;
 use turn_lock::gate::Gate;
 
 /// The bytes of the recording of a seed and a count of events.
@@ -56,7 +56,7 @@ fn big_script_job(alloc: Global, x: u32, n: u32, recording: Recording) -> Result
     rec_gen::script_laws::script_is_accepted();
     bt_lexer::laws::one_answer();
     bt_grammar::laws::one_answer();
-    bt_judge::laws::scripts_have_one_size();
+    top_jobs::laws::scripts_have_one_size();
     script_job(alloc, &SCRIPT, recording)
 }
 
@@ -67,7 +67,7 @@ fn big_job(alloc: Global, x: u32, n: u32) -> Result<Job, Refusal>
     ensures can_run { IfOk result (λ job. IsJob job.typed job.attached job.recording) }
     ensures memory { IfErr result (λ refusal. refusal ≡ Refusal.Memory) }
 {
-    bt_job::laws::accepted_scripts_are_jobs();
+    job_laws::laws::accepted_scripts_are_jobs();
     let recording = generate(alloc, x, n)?;
     big_script_job(alloc, x, n, recording)
 }

@@ -3,7 +3,7 @@ ghost use Rattle.std.specs.Prelude.{◌≡◌, OnOk, OnErr, length};
 ghost use Rattle.std.specs.Io.KnownBytes.{Appends};
 ghost use Rattle.bt_io.specs.Faults.{Rose};
 ghost use Rattle.bt_io.specs.Taken.{AppendsPart};
-ghost use Rattle.bt_refusal.specs.Lines.{sink_use};
+ghost use Rattle.top_refusals.specs.Lines.{sink_use};
 ghost use Rattle.bt_top.specs.Writing.{Wrote, WroteBytes};
 ghost use Rattle.bt_top.specs.Offered.{OffersBoth};
 ghost use Rattle.bt_top.specs.Outcomes.{bytes_written, shown_text};
@@ -11,8 +11,8 @@ ghost use Rattle.bt_top.specs.Outcomes.{bytes_written, shown_text};
 use bpf_encode::program::Program;
 use bt_core::items::Items;
 use bt_io::sink::{Sink, SinkFailed, write_all};
-use bt_refusal::refusal::{Denial, Refusal};
-use run_base::job::Work;
+use run_output::job::Work;
+use top_refusals::refusal::{Denial, Refusal};
 
 /// What an order comes to where its files are not refused: the work of a run; the programs that were run, listed or checked; why what it
 /// checks is refused, where it is; whether the text of the work is written, which are JSON lines where these are asked for; and the bytes that

@@ -1,12 +1,12 @@
 // What a call answers.
 ghost use Rattle.std.specs.Prelude.{◌≡◌, [], None, Some};
-ghost use Rattle.bt_refusal.specs.Refusals.{status_of};
+ghost use Rattle.top_refusals.specs.Refusals.{status_of};
 
 use bpf_encode::program::Program;
 use bt_core::items::Items;
-use bt_refusal::refusal::{Refusal, status_of};
-use run_base::job::Work;
+use run_output::job::Work;
 use std::alloc::Global;
+use top_refusals::refusal::{Refusal, status_of};
 
 /// What a call answers: the exit status, why it was refused where it was, the work that was done, which is there at status 0
 /// and 5 of `run`, `big` and `account`, and the programs that were run, listed or checked, one for each body in the order of the bodies, at

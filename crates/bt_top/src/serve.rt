@@ -1,11 +1,11 @@
 // The top call.
 ghost use Rattle.std.specs.Prelude.{◌≡◌, ◌≢◌, ◌↔◌, None, Some, IfSome, IsSome};
 ghost use Rattle.bt_words.specs.Words.{HasBounds, order_of};
-ghost use Rattle.bt_judge.specs.FailedNames.{FailsNamed};
-ghost use Rattle.bt_refusal.specs.Lines.{SinkFailed, sink_use};
-ghost use Rattle.bt_refusal.specs.Orders.{files_in, files_of, names_of};
-ghost use Rattle.bt_judge.specs.Reads.{AsksExactly, AsksFirst, OnTold, shelf_use};
-ghost use Rattle.bt_refusal.specs.Refusals.{status_of, TellsRefusal};
+ghost use Rattle.top_jobs.specs.FailedNames.{FailsNamed};
+ghost use Rattle.top_refusals.specs.Lines.{SinkFailed, sink_use};
+ghost use Rattle.top_refusals.specs.Orders.{files_in, files_of, names_of};
+ghost use Rattle.top_jobs.specs.Reads.{AsksExactly, AsksFirst, OnTold, shelf_use};
+ghost use Rattle.top_refusals.specs.Refusals.{status_of, TellsRefusal};
 ghost use Rattle.bt_top.specs.Headline.{Headline};
 ghost use Rattle.bt_top.specs.Offered.{IsOffered};
 ghost use Rattle.bt_top.specs.Serve.{AnswersOrder, EndsAsDue, HasWork, AnswersWords, IsComplete, ReadFailed};
@@ -17,13 +17,13 @@ use crate::report::{Report, refused};
 use crate::tasks::outcome_of;
 use bt_io::shelf::Shelf;
 use bt_io::sink::Sink;
-use bt_refusal::refusal::{Refusal, status_of};
-use bt_refusal::tell::{tell_memory, tell_refusal, tell_usage};
 use bt_words::order::{Order, WordsError};
 use bt_words::read::read_words;
 use std::alloc::Global;
 use std::sync::Wait;
 use std::thread::Threads;
+use top_refusals::refusal::{Refusal, status_of};
+use top_refusals::tell::{tell_memory, tell_refusal, tell_usage};
 use turn_lock::gate::Gate;
 
 /// What was done, and whether it was written.
@@ -65,7 +65,7 @@ fn perform<S: Shelf, K: Sink, G: Gate + Sync, R: Threads + Wait + Sync>(
         (sink_use K.taken K.faults out.old out.new) result }
     ensures offered { IsOffered (Some order.now) (sink_use K.taken K.faults out.old out.new) (K.offers out.old) (K.offers out.new) result }
 {
-    bt_job::laws::accepted_scripts_are_jobs();
+    job_laws::laws::accepted_scripts_are_jobs();
     bt_meaning::laws::ticks_come_after();
     total_laws::read_laws::reads_see_beginnings();
     total_laws::read_laws::adds_are_own();

@@ -2,15 +2,15 @@
 ghost use Rattle.std.specs.Prelude.{◌≡◌, ◌≤◌, length, IfOk};
 ghost use Rattle.bt_meaning.specs.Jobs.{IsJob};
 ghost use Rattle.bt_words.specs.Words.{HasBounds};
-ghost use Rattle.code_bodies.specs.Programs.{KeepScript};
-ghost use Rattle.bt_judge.specs.Doing.{ComesOfFiles, refusal_in};
-ghost use Rattle.bt_judge.specs.FailedNames.{FailsNamed};
-ghost use Rattle.bt_judge.specs.Jobs.{IsJobFor};
-ghost use Rattle.bt_refusal.specs.Orders.{files_of, on_account, on_script};
-ghost use Rattle.bt_judge.specs.Reads.{shelf_use};
+ghost use Rattle.code_runs.specs.Programs.{KeepScript};
+ghost use Rattle.top_jobs.specs.Doing.{ComesOfFiles, refusal_in};
+ghost use Rattle.top_jobs.specs.FailedNames.{FailsNamed};
+ghost use Rattle.top_jobs.specs.Jobs.{IsJobFor};
+ghost use Rattle.top_refusals.specs.Orders.{files_of, on_account, on_script};
+ghost use Rattle.top_jobs.specs.Reads.{shelf_use};
 ghost use Rattle.bt_top.specs.Outcomes.{form_of, ComesTo, IsOutcomeOfRun, IsOutcomeOfVerify, IsOutcomeOfVet, check_outcome, code_outcome, instructions_line, run_outcome, stats_line};
-ghost use Rattle.bt_judge.specs.Listings.{script_listing};
-ghost use Rattle.bt_judge.specs.Vetting.{IsVerdict};
+ghost use Rattle.top_jobs.specs.Listings.{script_listing};
+ghost use Rattle.top_jobs.specs.Vetting.{IsVerdict};
 
 use crate::accounts::{account_outcome, verify_outcome};
 use crate::made::{big_outcome, gen_outcome};
@@ -19,17 +19,17 @@ use crate::work::{programs_of, run};
 use bt_core::items::Items;
 use bt_core::memory::Memory;
 use bt_io::shelf::Shelf;
-use bt_judge::files::{AccountJob, read_account_job, read_job, read_job_on_threads};
-use bt_judge::listing::script_listing;
-use bt_judge::vetting::{Verdict, vet_programs};
-use bt_refusal::refusal::{Denial, Refusal};
 use bt_words::order::{FileName, Order};
 use itoa::Buffer;
-use run_base::form::Form;
-use run_base::job::{Job, Work};
+use run_output::form::Form;
+use run_output::job::{Job, Work};
 use std::alloc::Global;
 use std::sync::Wait;
 use std::thread::Threads;
+use top_jobs::files::{AccountJob, read_account_job, read_job, read_job_on_threads};
+use top_jobs::listing::script_listing;
+use top_jobs::vetting::{Verdict, vet_programs};
+use top_refusals::refusal::{Denial, Refusal};
 use turn_lock::gate::Gate;
 
 /// The form that is asked for: JSON lines, or text.

@@ -1,15 +1,15 @@
 // The work of a job.
 ghost use Rattle.std.specs.Prelude.{◌≡◌, IfOk};
 ghost use Rattle.bt_meaning.specs.Jobs.{IsJob};
-ghost use Rattle.code_bodies.specs.Programs.{KeepScript};
+ghost use Rattle.code_runs.specs.Programs.{KeepScript};
 ghost use Rattle.bt_top.specs.Jobs.{IsWorkOf};
 
 use bpf_encode::program::Program;
 use bt_core::items::Items;
 use bt_core::memory::Memory;
 use bt_run::run::run_serial;
-use run_base::form::Form;
-use run_base::job::{Job, Work};
+use run_output::form::Form;
+use run_output::job::{Job, Work};
 use std::alloc::Global;
 use std::sync::Wait;
 use std::thread::Threads;

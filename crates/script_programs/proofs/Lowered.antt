@@ -37,10 +37,10 @@ use Rattle.body_code.specs.Holding.{SameEnd}
 use Rattle.body_code.specs.Replies.{AnswersAt, AnswersOp, AnswersTable, GivesValue, IsOwnReply, shape_held}
 use Rattle.helper_abi.specs.Reading.{shape_of_kind}
 use Rattle.body_code.specs.Words.{HasShape}
-use Rattle.code_bodies.specs.Agree.{Comes}
-use Rattle.code_bodies.specs.HeldReplies.{IsHeldReply, IsHeldValue}
-use Rattle.code_bodies.specs.Coding.{fuel_of}
-use Rattle.code_bodies.specs.Kept.{EndsByExit, IsSeen, KeepsWalk, KeepBodies}
+use Rattle.code_runs.specs.Agree.{Comes}
+use Rattle.code_runs.specs.HeldReplies.{IsHeldReply, IsHeldValue}
+use Rattle.code_runs.specs.Coding.{fuel_of}
+use Rattle.code_runs.specs.Kept.{EndsByExit, IsSeen, KeepsWalk, KeepBodies}
 use Rattle.script_programs.specs.Probes.{KeepProbes}
 
 -- more replies are asked to fit, and the ends are alike in another way

@@ -12,13 +12,13 @@ use Rattle.bt_lower.specs.Bodies.{IsLowered, LowersScript}
 use Rattle.body_code.specs.Blocks.{code_of}
 use Rattle.body_code.specs.Bodies.{KeepsBody}
 use Rattle.bpf_insn.specs.declared.insn.Insn.{Insn}
-use Rattle.code_bodies.specs.Kept.{KeepBodies}
+use Rattle.code_runs.specs.Kept.{KeepBodies}
 use Rattle.script_programs.specs.Probes.{KeepProbes}
 use Rattle.typed_tree.specs.declared.body.TypedBody.{TypedBody}
 use Rattle.typed_tree.specs.declared.script.Typed.{Typed}
 use Rattle.script_programs.specs.declared.error.SizeFault.{SizeFault}
 use Rattle.script_programs.specs.Making.{IsMade, AreMade}
-use Rattle.code_bodies.specs.Programs.{KeepScript}
+use Rattle.code_runs.specs.Programs.{KeepScript}
 use Rattle.script_programs.specs.Sizes.{first_size_fault, or_else, too_large}
 
 -- ---- one program more

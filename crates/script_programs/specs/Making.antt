@@ -5,7 +5,7 @@ use Rattle.bpf_encode.specs.declared.program.Program.{Program}
 use Rattle.ir_code.specs.declared.probe.IrProbe.{IrProbe}
 use Rattle.body_code.specs.Blocks.{code_of}
 use Rattle.body_code.specs.Bodies.{KeepsBody}
-use Rattle.code_bodies.specs.Programs.{IsProgram}
+use Rattle.code_runs.specs.Programs.{IsProgram}
 
 -- the program is the code of a body in typed instructions, which keeps it
 pub record IsMade (probe : IrProbe) (program : Program) : Type 0 where

@@ -4,7 +4,7 @@ ghost use Rattle.bpf_insn.specs.declared.insn.Insn.{Insn};
 ghost use Rattle.typed_tree.specs.declared.script.Typed.{Typed};
 ghost use Rattle.ir_code.specs.declared.probe.IrProbe.{IrProbe};
 ghost use Rattle.bt_lower.specs.Bodies.{LowersScript};
-ghost use Rattle.code_bodies.specs.Kept.{KeepBodies};
+ghost use Rattle.code_runs.specs.Kept.{KeepBodies};
 ghost use Rattle.script_programs.specs.Probes.{KeepProbes};
 
 /// Code that keeps a body in typed instructions keeps the body that it was lowered from.

@@ -1,7 +1,7 @@
 // Programs of whole scripts.
 ghost use Rattle.std.specs.Prelude.{◌≡◌, None, Some, Err, ℕ, IfOk};
 ghost use Rattle.script_programs.specs.Making.{IsMade};
-ghost use Rattle.code_bodies.specs.Programs.{KeepScript};
+ghost use Rattle.code_runs.specs.Programs.{KeepScript};
 ghost use Rattle.script_programs.specs.Sizes.{first_size_fault, too_large, IsUntold};
 ghost use Rattle.script_programs.specs.declared.error.SizeFault.{SizeFault as Fault};
 

@@ -14,9 +14,9 @@ use Rattle.bt_meaning.proofs.OwnCalls.{script_steps}
 use Rattle.bpf_insn.specs.declared.insn.Insn.{Insn}
 use Rattle.bt_meaning.specs.Instructions.{instructions_of}
 use Rattle.bt_meaning.specs.Interleavings.{IsReplayed}
-use Rattle.code_bodies.specs.Coding.{code_replay, coding}
-use Rattle.run_base.specs.declared.job.Job.{Job}
-use Rattle.run_base.specs.Jobs.{cpus_in}
+use Rattle.code_runs.specs.Coding.{code_replay, coding}
+use Rattle.run_output.specs.declared.job.Job.{Job}
+use Rattle.run_output.specs.Jobs.{cpus_in}
 use Rattle.run_objects.specs.declared.closed.Closed.{Closed}
 use Rattle.thread_run.specs.Made.{IsMade}
 

@@ -4,8 +4,8 @@ use Rattle.bt_core.specs.declared.step.Step.{Step}
 use Rattle.actor_plan.specs.Plans.{Plan}
 use Rattle.bt_meaning.specs.Instructions.{instructions_of}
 use Rattle.bt_meaning.specs.Interleavings.{IsReplayed}
-use Rattle.run_base.specs.declared.job.Job.{Job}
-use Rattle.run_base.specs.Jobs.{replay_with, world_for}
+use Rattle.run_output.specs.declared.job.Job.{Job}
+use Rattle.run_output.specs.Jobs.{replay_with, world_for}
 use Rattle.run_objects.specs.declared.closed.Closed.{Closed}
 use Rattle.run_objects.specs.Closed.{AreClosedAt}
 

@@ -3,8 +3,8 @@ use Rattle.std.specs.Prelude.{◌≡◌, ◌+◌, List, length, map}
 use Rattle.percpu_tables.specs.Tables.{AreAllTableTurns, table_actors, table_maps}
 use Rattle.shared_maps.specs.Maps.{AreAllPartTurns, part_actors, part_maps}
 use Rattle.side_locks.specs.Sides.{AreAllSideTurns, side_kind}
-use Rattle.run_base.specs.declared.job.Job.{Job}
-use Rattle.run_base.specs.Jobs.{cpus_in}
+use Rattle.run_output.specs.declared.job.Job.{Job}
+use Rattle.run_output.specs.Jobs.{cpus_in}
 use Rattle.cpu_worker.specs.declared.world.WorkerTurns.{WorkerTurns}
 use Rattle.thread_run.specs.declared.sets.Sets.{Sets}
 use Rattle.thread_actors.specs.Turns.{at_maps, at_tables, at_sides}

@@ -1,16 +1,16 @@
 // The bodies of all actors by their code.
 ghost use Rattle.std.specs.Prelude.{◌+◌, ◌<◌, ◌^◌, IfOk};
 ghost use Rattle.std.specs.List.{AllByRecursion};
-ghost use Rattle.code_bodies.specs.Coding.{CanRunCode};
-ghost use Rattle.code_bodies.specs.Running.{plan_of};
-ghost use Rattle.run_base.specs.Jobs.{cpus_in, plans_by};
+ghost use Rattle.code_runs.specs.Coding.{CanRunCode};
+ghost use Rattle.code_runs.specs.Running.{plan_of};
+ghost use Rattle.run_output.specs.Jobs.{cpus_in, plans_by};
 ghost use Rattle.thread_actors.specs.Plans.{HavePlans};
 
 use bpf_interp::code::Code;
 use bt_core::memory::Memory;
-use code_bodies::code_bodies::CodeBodies;
-use run_base::bodies::bodies_at;
-use run_base::job::Job;
+use code_runs::code_bodies::CodeBodies;
+use run_output::bodies::bodies_at;
+use run_output::job::Job;
 use std::alloc::Global;
 
 /// What runs the bodies of a job's script by these codes, for each actor: the CPUs by their places, and the main actor.

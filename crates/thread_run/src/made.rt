@@ -1,8 +1,8 @@
 // The run on threads, up to its list of steps.
 ghost use Rattle.std.specs.Prelude.{IfOk};
 ghost use Rattle.std.specs.List.{AllByRecursion};
-ghost use Rattle.code_bodies.specs.Coding.{CanRunCode};
-ghost use Rattle.run_base.specs.Jobs.{plans_by, CanRunAll};
+ghost use Rattle.code_runs.specs.Coding.{CanRunCode};
+ghost use Rattle.run_output.specs.Jobs.{plans_by, CanRunAll};
 ghost use Rattle.thread_run.specs.Made.{IsMade};
 
 use crate::bodies::all_bodies;
@@ -11,8 +11,8 @@ use crate::sets::{Sets, new_sets};
 use bpf_interp::code::Code;
 use bt_core::memory::Memory;
 use cpu_worker::world::SharedWorld;
-use run_base::job::Job;
 use run_objects::closed::Closed;
+use run_output::job::Job;
 use std::alloc::Global;
 use std::sync::Wait;
 use std::thread::Threads;

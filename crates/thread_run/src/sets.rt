@@ -2,14 +2,14 @@
 ghost use Rattle.std.specs.Prelude.{◌≡◌, ◌+◌, ◌<◌, ◌^◌, All, length, IfOk};
 ghost use Rattle.bt_core.specs.Kinds.{IsFineDecl};
 ghost use Rattle.turn_lock.specs.History.{Each};
-ghost use Rattle.run_base.specs.Jobs.{cpus_in};
+ghost use Rattle.run_output.specs.Jobs.{cpus_in};
 ghost use Rattle.thread_actors.specs.Turns.{AreUnused};
 ghost use Rattle.thread_run.specs.Sets.{AreFor, AreAllTurns};
 
 use bt_core::memory::Memory;
 use cpu_worker::world::WorkerTurns;
 use percpu_tables::tables::Tables;
-use run_base::job::Job;
+use run_output::job::Job;
 use shared_maps::maps::SharedMaps;
 use side_locks::sides::SideLocks;
 use std::alloc::Global;

@@ -18,7 +18,7 @@ use Rattle.actor_plan.specs.Programs.{begin_program, cpu_program, end_program}
 use Rattle.actor_plan.proofs.AskLaws.{program_asks, begin_asks, cpu_asks, end_asks}
 use Rattle.bt_meaning.specs.Jobs.{IsJob}
 use Rattle.bt_meaning.specs.Walks.{walked, walking, replay_of}
-use Rattle.begun_lists.specs.Begun.{program_of}
+use Rattle.begun_meaning.specs.Begun.{program_of}
 use Rattle.total_laws.specs.WalkCalls.{IsWalkCall, OnlyCalls}
 use Rattle.total_laws.proofs.WalkCalls.{only-then, walk_calls}
 use Rattle.total_laws.specs.Calls.{IsProgramCall}

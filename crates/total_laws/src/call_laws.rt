@@ -9,7 +9,7 @@ ghost use Rattle.actor_plan.specs.Plans.{AsksOf};
 ghost use Rattle.bt_meaning.specs.Interleavings.{IsInterleaving};
 ghost use Rattle.bt_meaning.specs.Jobs.{IsJob};
 ghost use Rattle.bt_meaning.specs.Walks.{replay_of};
-ghost use Rattle.begun_lists.specs.Begun.{program_of};
+ghost use Rattle.begun_meaning.specs.Begun.{program_of};
 ghost use Rattle.total_laws.specs.Calls.{IsProgramCall, IsProgramStep};
 
 /// Under replies of the kinds that the operations have, each actor of a script makes each operation under a key at the key's part, and

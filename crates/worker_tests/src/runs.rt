@@ -2,12 +2,13 @@
 ghost use Rattle.std.specs.Prelude.{◌≡◌, ◌<◌, IfOk};
 ghost use Rattle.bt_meaning.specs.Jobs.{IsJob};
 ghost use Rattle.cpu_worker.specs.Worlds.{sets_in, world_cpus, AreTurnsOf, IsPlanIn};
-ghost use Rattle.walk_bodies.specs.Plans.{plan_of};
+ghost use Rattle.account_check.specs.Plans.{plan_of};
 
 use crate::failing::Failing;
 use crate::locks::{AllTurns, close, new_locks};
 use crate::script::Scripted;
 use crate::workers::{Order, Task, new_task, run_both};
+use account_check::walks::{Walks, walks_take_few};
 use actor_plan::outcome::Outcome;
 use bt_core::memory::Memory;
 use bt_core::step::Step;
@@ -17,8 +18,6 @@ use std::sync::Wait;
 use std::test::Fail;
 use std::thread::Threads;
 use turn_lock::gate::{Gate, Open};
-use walk_bodies::laws::walks_take_few;
-use walk_bodies::walks::Walks;
 
 /// The bodies of one of two CPUs, of which this run runs out of memory.
 fn failing_at<'w>(world: &SharedWorld<'w>, cpu: u32, fails_at: u32) -> Failing<Walks<'w>>

@@ -94,7 +94,7 @@ pub fn new_scripted(alloc: Global) -> Result<Scripted, Fail>
     ensures { IfOk result (λ s. IsJob s.typed s.attached s.recording) }
 {
     bt_attach::laws::bodies_are_there();
-    bt_job::laws::accepted_scripts_are_jobs();
+    job_laws::laws::accepted_scripts_are_jobs();
     let recording = read_recording(alloc, joined(alloc, &TWO_EACH)?)?;
     let formats = recording.formats.as_slice();
     let tree = tree_of(alloc, BODY)?;

@@ -1,7 +1,7 @@
 use Rattle.std.proofs.Common.{◌≡◌, ℕ, ◌<◌, length, slice_index_or}
 use Rattle.bt_meaning.specs.Walks.{walking}
-use Rattle.walk_bodies.specs.declared.walks.Walks.{Walks}
-use Rattle.walk_bodies.specs.Plans.{plan_of}
+use Rattle.account_check.specs.declared.walks.Walks.{Walks}
+use Rattle.account_check.specs.Plans.{plan_of}
 use Rattle.account_check.proofs.bodies.walks_of.Given as goal
 
 -- those of the actors before this one

@@ -1,6 +1,6 @@
 use Rattle.std.proofs.Common.{ℕ, length, ◌+◌, sym, subst}
 use Rattle.actor_plan.specs.Plans.{Plan}
-use Rattle.step_check.specs.Plans.{CanFollow}
+use Rattle.account_steps.specs.Plans.{CanFollow}
 use Rattle.account_check.proofs.EntryLemmas.{can_follow, entries_blank, entries_can, maps_fine}
 use Rattle.account_check.proofs.checking.found_by.Goals as goal
 

@@ -1,8 +1,8 @@
 use Rattle.std.proofs.Common.{List, length, ◌+◌, sym, refl, subst}
 use Rattle.bt_meaning.specs.Walks.{walking}
-use Rattle.step_check.specs.Plans.{HavePlans}
-use Rattle.walk_bodies.specs.declared.walks.Walks.{Walks}
-use Rattle.walk_bodies.specs.Plans.{plan_of}
+use Rattle.account_steps.specs.Plans.{HavePlans}
+use Rattle.account_check.specs.declared.walks.Walks.{Walks}
+use Rattle.account_check.specs.Plans.{plan_of}
 use Rattle.account_check.proofs.EntryLemmas.{have_plans}
 use Rattle.account_check.proofs.checking.found_of.Goals as goal
 

@@ -1,7 +1,7 @@
 use Rattle.std.proofs.Common.{length, ap, ◌∙◌, subst}
 use Rattle.bt_meaning.specs.Prints.{lost_after, rows_after}
 use Rattle.run_objects.proofs.MapReads.{maps_long}
-use Rattle.step_check.specs.Answers.{IsFound}
+use Rattle.account_steps.specs.Answers.{IsFound}
 use Rattle.account_check.specs.Accounts.{run}
 use Rattle.account_check.proofs.RunsTold.{emit_own}
 use Rattle.account_check.proofs.Verdicts.{true_of}

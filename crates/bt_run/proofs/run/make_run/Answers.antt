@@ -4,11 +4,11 @@ use Rattle.std.specs.List.Sorted.{IsPermutation}
 use Rattle.bpf_insn.specs.declared.insn.Insn.{Insn}
 use Rattle.bt_core.specs.declared.step.Step.{Step}
 use Rattle.step_list.specs.Lists.{steps_in}
-use Rattle.code_bodies.specs.Coding.{CanRunCode, coding}
-use Rattle.code_bodies.specs.Programs.{AreCodesOf, KeepScript}
-use Rattle.run_base.specs.Jobs.{cpus_in}
+use Rattle.code_runs.specs.Coding.{CanRunCode, coding}
+use Rattle.code_runs.specs.Programs.{AreCodesOf, KeepScript}
+use Rattle.run_output.specs.Jobs.{cpus_in}
 use Rattle.bt_run.specs.Made.{IsMade}
-use Rattle.run_base.proofs.CodeLemmas.{few_slots, jobs_run}
+use Rattle.run_output.proofs.CodeLemmas.{few_slots, jobs_run}
 use Rattle.bt_run.proofs.RunLemmas.{has_run, one_list}
 use Rattle.bt_run.proofs.run.make_run.Goals as goal
 

@@ -2,11 +2,11 @@ use Rattle.std.proofs.Common.{List, length, sym, ap, ◌∙◌, subst}
 use Rattle.bt_core.specs.declared.step.Step.{Step}
 use Rattle.map_rows.specs.Fits.{AllRowsFit}
 use Rattle.bt_meaning.specs.Prints.{rows_after, lost_after, of_maps, operations_at}
-use Rattle.run_base.specs.Jobs.{cpus_in}
+use Rattle.run_output.specs.Jobs.{cpus_in}
 use Rattle.run_objects.specs.Worlds.{World}
 use Rattle.run_objects.proofs.MapReads.{maps_long, rows_fit}
 use Rattle.run_objects.specs.Closed.{AreClosedAt}
-use Rattle.run_base.specs.Outputs.{output_of}
+use Rattle.run_output.specs.Outputs.{output_of}
 use Rattle.bt_run.proofs.RunLemmas.{output_then}
 use Rattle.bt_run.proofs.run.output_of.Goals as goal
 

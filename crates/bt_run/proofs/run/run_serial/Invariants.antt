@@ -1,5 +1,5 @@
 use Rattle.step_list.specs.Lists.{steps_in}
-use Rattle.run_base.specs.Jobs.{world_for}
+use Rattle.run_output.specs.Jobs.{world_for}
 use Rattle.bt_run.proofs.run.run_serial.Given as goal
 
 abbrev pub ghost-output_of : goal.ghost-output_of

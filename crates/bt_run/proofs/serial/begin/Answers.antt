@@ -2,8 +2,8 @@ use Rattle.std.proofs.Common.{◌≡◌, map, length, sym, ap, ◌∙◌, refl}
 use Rattle.actor_plan.specs.Programs.{begin_program}
 use Rattle.bt_meaning.specs.Replays.{begin_of}
 use Rattle.bt_meaning.specs.Serial.{unstamped, then_steps, then_value}
-use Rattle.code_bodies.specs.Running.{plan_of}
-use Rattle.run_base.specs.Jobs.{cpus_in, plans_by, replay_with}
+use Rattle.code_runs.specs.Running.{plan_of}
+use Rattle.run_output.specs.Jobs.{cpus_in, plans_by, replay_with}
 use Rattle.bt_run.proofs.TakeLemmas.{main_by, ready}
 use Rattle.bt_run.proofs.serial.begin.Goals as goal
 

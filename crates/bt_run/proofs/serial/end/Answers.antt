@@ -1,7 +1,7 @@
 use Rattle.std.proofs.Common.{◌≡◌, sym, ap, ◌∙◌}
 use Rattle.actor_plan.specs.Programs.{end_program}
-use Rattle.code_bodies.specs.Running.{plan_of}
-use Rattle.run_base.specs.Jobs.{cpus_in, plans_by}
+use Rattle.code_runs.specs.Running.{plan_of}
+use Rattle.run_output.specs.Jobs.{cpus_in, plans_by}
 use Rattle.bt_run.proofs.TakeLemmas.{main_by, ready}
 use Rattle.bt_run.proofs.serial.end.Goals as goal
 

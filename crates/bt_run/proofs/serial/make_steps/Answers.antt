@@ -1,6 +1,6 @@
 use Rattle.std.proofs.Common.{◌+◌, ap, ◌∙◌}
 use Rattle.step_list.specs.Lists.{steps_in}
-use Rattle.run_base.specs.Jobs.{plans_by}
+use Rattle.run_output.specs.Jobs.{plans_by}
 use Rattle.bt_run.proofs.TakeLemmas.{all_made}
 use Rattle.bt_run.proofs.serial.make_steps.Goals as goal
 

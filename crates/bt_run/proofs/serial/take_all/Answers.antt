@@ -4,7 +4,7 @@ use Rattle.std.proofs.lemmas.Option.{MatchOption-at_some, MatchOption-at_none}
 use Rattle.std.proofs.lemmas.List.{length-replicate}
 use Rattle.bt_meaning.specs.declared.schedule.Scheduled.{Scheduled}
 use Rattle.bt_meaning.specs.Serial.{taken, unstamped}
-use Rattle.run_base.specs.Jobs.{cpus_in, plans_by, replay_with}
+use Rattle.run_output.specs.Jobs.{cpus_in, plans_by, replay_with}
 use Rattle.bt_run.specs.Counts.{taken_count}
 use Rattle.bt_run.proofs.TakeLemmas.{loop_steps, loop_counts}
 use Rattle.bt_run.proofs.serial.take_all.Goals as goal

@@ -2,7 +2,7 @@ use Rattle.std.proofs.Common.{◌≡◌, ◌+◌, true, map, length}
 use Rattle.std.specs.Prelude.{replicate}
 use Rattle.bt_meaning.specs.Serial.{unstamped, taken}
 use Rattle.bt_run.specs.Counts.{taken_count}
-use Rattle.run_base.specs.Jobs.{cpus_in, plans_by, replay_with, world_for}
+use Rattle.run_output.specs.Jobs.{cpus_in, plans_by, replay_with, world_for}
 use Rattle.bt_run.proofs.serial.take_all.Given as goal
 
 abbrev pub invariant-loop-item : goal.invariant-loop-item

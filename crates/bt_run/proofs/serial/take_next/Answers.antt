@@ -4,8 +4,8 @@ use Rattle.std.proofs.lemmas.Option.{slice_get-get_or}
 use Rattle.actor_plan.specs.Plans.{Plan}
 use Rattle.actor_plan.specs.Ready.{IsReady}
 use Rattle.run_objects.specs.Worlds.{setting_in}
-use Rattle.code_bodies.specs.Running.{plan_of}
-use Rattle.run_base.specs.Jobs.{cpus_in, plans_by}
+use Rattle.code_runs.specs.Running.{plan_of}
+use Rattle.run_output.specs.Jobs.{cpus_in, plans_by}
 use Rattle.bt_run.proofs.TakeLemmas.{ready, next_by, goes_within}
 use Rattle.bt_run.proofs.serial.take_next.Goals as goal
 

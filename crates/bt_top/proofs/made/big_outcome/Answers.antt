@@ -1,7 +1,7 @@
 use Rattle.std.proofs.Common.{List, length, false, true, Some, None, sym, subst}
 use Rattle.bpf_encode.specs.declared.program.Program.{Program}
-use Rattle.run_base.specs.declared.job.Work.{Work}
-use Rattle.run_base.specs.declared.form.Form.TheVariants.{Text}
+use Rattle.run_output.specs.declared.job.Work.{Work}
+use Rattle.run_output.specs.declared.form.Form.TheVariants.{Text}
 use Rattle.bt_top.specs.Outcomes.{IsOutcomeOfRun, summary_line}
 use Rattle.bt_top.proofs.made.big_outcome.Goals as goal
 

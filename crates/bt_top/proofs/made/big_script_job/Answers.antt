@@ -1,5 +1,5 @@
 use Rattle.rec_gen.specs.declared.script.TheConstants.{SCRIPT}
-use Rattle.bt_judge.proofs.Scripts.{AreScriptLaws}
+use Rattle.top_jobs.proofs.Scripts.{AreScriptLaws}
 use Rattle.bt_top.proofs.Making.{only_memory}
 use Rattle.bt_top.proofs.made.big_script_job.Goals as goal
 

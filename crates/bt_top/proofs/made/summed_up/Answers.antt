@@ -1,6 +1,6 @@
 use Rattle.std.proofs.Common.{false, length, ap, ◌∙◌}
-use Rattle.run_base.specs.declared.job.Work.{Work}
-use Rattle.run_base.specs.declared.form.Form.TheVariants.{Text}
+use Rattle.run_output.specs.declared.job.Work.{Work}
+use Rattle.run_output.specs.declared.form.Form.TheVariants.{Text}
 use Rattle.bt_top.specs.Outcomes.{summary_line}
 use Rattle.bt_top.proofs.Performing.{ran_with}
 use Rattle.bt_top.proofs.made.summed_up.Goals as goal

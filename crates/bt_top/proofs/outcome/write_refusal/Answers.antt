@@ -1,5 +1,5 @@
 use Rattle.std.proofs.Common.{refl}
-use Rattle.bt_refusal.proofs.LineLaws.{kept}
+use Rattle.top_refusals.proofs.LineLaws.{kept}
 use Rattle.bt_top.proofs.Offered.{no_offers_both}
 use Rattle.bt_top.proofs.outcome.write_refusal.Goals as goal
 

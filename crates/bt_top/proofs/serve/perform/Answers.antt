@@ -1,5 +1,5 @@
 use Rattle.std.specs.Prelude.{Some}
-use Rattle.bt_refusal.proofs.LineLaws.{kept}
+use Rattle.top_refusals.proofs.LineLaws.{kept}
 use Rattle.bt_top.proofs.Answering.{done_answer, done_exact, files_exact, refused_answer}
 use Rattle.bt_top.proofs.Performing.{written_failed}
 use Rattle.bt_top.proofs.Headlines.{AreRunLaws, done_headline, refused_headline}

@@ -2,10 +2,10 @@ use Rattle.std.proofs.Common.{refl}
 use Rattle.bt_words.specs.declared.order.Order.{Order}
 use Rattle.bt_words.specs.Words.{order_of}
 use Rattle.std.specs.Prelude.{Some}
-use Rattle.bt_refusal.specs.declared.refusal.Refusal.TheVariants.{Memory}
-use Rattle.bt_refusal.specs.Orders.{files_in, files_of}
-use Rattle.bt_judge.specs.Reads.{OnTold}
-use Rattle.bt_refusal.proofs.LineLaws.{kept}
+use Rattle.top_refusals.specs.declared.refusal.Refusal.TheVariants.{Memory}
+use Rattle.top_refusals.specs.Orders.{files_in, files_of}
+use Rattle.top_jobs.specs.Reads.{OnTold}
+use Rattle.top_refusals.proofs.LineLaws.{kept}
 use Rattle.bt_top.specs.Serve.{EndsAsDue}
 use Rattle.bt_top.proofs.Answering.{is_complete, on_order, words_answer}
 use Rattle.bt_top.proofs.Headlines.{refused_headline}

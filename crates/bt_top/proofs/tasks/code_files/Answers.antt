@@ -1,5 +1,5 @@
-use Rattle.bt_judge.specs.Jobs.{IsJobFor}
-use Rattle.bt_refusal.specs.Orders.{on_script}
+use Rattle.top_jobs.specs.Jobs.{IsJobFor}
+use Rattle.top_refusals.specs.Orders.{on_script}
 use Rattle.bt_words.specs.declared.order.Order.TheVariants.{Code}
 use Rattle.bt_top.specs.Outcomes.{ComesTo}
 use Rattle.bt_top.proofs.Performing.{goes_on}

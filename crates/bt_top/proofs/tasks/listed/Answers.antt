@@ -1,8 +1,8 @@
 use Rattle.std.proofs.Common.{List, sym, subst}
 use Rattle.std.specs.List.{AllByRecursion}
 use Rattle.bpf_encode.specs.declared.program.Program.{Program}
-use Rattle.bt_judge.specs.Doing.{CanBeListed}
-use Rattle.bt_judge.proofs.Listed.{can_be_listed}
+use Rattle.top_jobs.specs.Doing.{CanBeListed}
+use Rattle.top_jobs.proofs.Listed.{can_be_listed}
 use Rattle.bt_top.proofs.tasks.listed.Goals as goal
 
 pub script_listing-requires : goal.script_listing-requires

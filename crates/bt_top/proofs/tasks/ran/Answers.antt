@@ -1,4 +1,4 @@
-use Rattle.run_base.specs.declared.job.Work.{Work}
+use Rattle.run_output.specs.declared.job.Work.{Work}
 use Rattle.bt_top.specs.Outcomes.{stats_line}
 use Rattle.bt_top.proofs.Performing.{ran_with}
 use Rattle.bt_top.proofs.tasks.ran.Goals as goal

@@ -1,8 +1,8 @@
-use Rattle.bt_judge.specs.Jobs.{IsJobFor}
-use Rattle.bt_refusal.specs.Orders.{on_script}
+use Rattle.top_jobs.specs.Jobs.{IsJobFor}
+use Rattle.top_refusals.specs.Orders.{on_script}
 use Rattle.bt_words.specs.declared.order.Order.TheVariants.{Run}
-use Rattle.run_base.specs.declared.job.Work.{Work}
-use Rattle.run_base.specs.declared.form.Form.{Form}
+use Rattle.run_output.specs.declared.job.Work.{Work}
+use Rattle.run_output.specs.declared.form.Form.{Form}
 use Rattle.std.proofs.Common.{subst}
 use Rattle.bt_top.specs.Outcomes.{ComesTo, IsOutcomeOfRun, stats_line}
 use Rattle.bt_top.proofs.Performing.{goes_on}

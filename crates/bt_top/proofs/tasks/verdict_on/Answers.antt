@@ -2,8 +2,8 @@ use Rattle.std.proofs.Common.{◌≤◌, List, length, sym, ap, subst, ◌∙◌
 use Rattle.std.specs.List.{AllByRecursion}
 use Rattle.bpf_encode.specs.declared.program.Program.{Program}
 use Rattle.bt_ast.specs.declared.attached.BodyId.{BodyId}
-use Rattle.bt_judge.specs.Doing.{CanBeListed}
-use Rattle.bt_judge.proofs.Listed.{can_be_listed}
+use Rattle.top_jobs.specs.Doing.{CanBeListed}
+use Rattle.top_jobs.proofs.Listed.{can_be_listed}
 use Rattle.bt_top.proofs.tasks.verdict_on.Goals as goal
 
 pub vet_programs-requires-clause-can_be_listed : goal.vet_programs-requires-clause-can_be_listed

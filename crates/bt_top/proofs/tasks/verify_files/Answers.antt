@@ -1,8 +1,8 @@
 use Rattle.std.proofs.Common.{List, ℕ, sym, subst}
 use Rattle.std.proofs.lemmas.Result.{err_from_is_err_and}
 use Rattle.bt_words.specs.declared.order.Order.TheVariants.{Verify}
-use Rattle.bt_judge.specs.Doing.{IsAccountJob}
-use Rattle.bt_refusal.specs.Orders.{on_account}
+use Rattle.top_jobs.specs.Doing.{IsAccountJob}
+use Rattle.top_refusals.specs.Orders.{on_account}
 use Rattle.bt_top.specs.Outcomes.{ComesTo, IsOutcomeOfVerify}
 use Rattle.bt_top.proofs.Performing.{goes_on, runs_out, stays_refused}
 use Rattle.bt_top.proofs.tasks.verify_files.Goals as goal

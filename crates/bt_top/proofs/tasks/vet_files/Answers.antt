@@ -1,6 +1,6 @@
-use Rattle.bt_judge.proofs.Passing.{names_bodies}
-use Rattle.bt_judge.specs.Jobs.{IsJobFor}
-use Rattle.bt_refusal.specs.Orders.{on_script}
+use Rattle.top_jobs.proofs.Passing.{names_bodies}
+use Rattle.top_jobs.specs.Jobs.{IsJobFor}
+use Rattle.top_refusals.specs.Orders.{on_script}
 use Rattle.bt_words.specs.declared.order.Order.TheVariants.{Vet}
 use Rattle.bt_top.specs.Outcomes.{ComesTo}
 use Rattle.bt_top.proofs.Performing.{goes_on}

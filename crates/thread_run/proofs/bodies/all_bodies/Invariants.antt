@@ -1,5 +1,5 @@
-use Rattle.code_bodies.specs.Running.{plan_of}
-use Rattle.run_base.specs.Jobs.{plans_by}
+use Rattle.code_runs.specs.Running.{plan_of}
+use Rattle.run_output.specs.Jobs.{plans_by}
 use Rattle.thread_actors.specs.Plans.{HavePlans}
 use Rattle.thread_run.proofs.bodies.all_bodies.Given as goal
 

@@ -17,7 +17,7 @@ use denote.Param.Send.{sendable}
 use Rattle.std.proofs.Crossing.{crosses}
 use Rattle.actor_plan.specs.Ready.{IsPlanFor}
 use Rattle.cpu_worker.proofs.ScriptShared.{sync_typed}
-use Rattle.run_base.specs.Jobs.{plans_by, world_for}
+use Rattle.run_output.specs.Jobs.{plans_by, world_for}
 use Rattle.thread_run.proofs.Making.{AreAllShut, all_maps, all_tables, all_sides, is_replayed, is_counted, is_possible, maps_are_stood, tables_are_stood}
 use Rattle.thread_run.proofs.Objects.{own_of_part, reply_of_part, out_kind, out_stands}
 use Rattle.thread_actors.proofs.Turning.{from_rows}

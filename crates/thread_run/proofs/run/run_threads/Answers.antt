@@ -2,10 +2,10 @@ use Rattle.std.proofs.Common.{◌+◌, List, sym, ◌∙◌, subst, refl}
 use Rattle.std.specs.List.{AllByRecursion}
 use Rattle.bpf_insn.specs.declared.insn.Insn.{Insn}
 use Rattle.bt_meaning.specs.Instructions.{instructions_of}
-use Rattle.code_bodies.specs.Coding.{CanRunCode, code_replay, coding}
-use Rattle.code_bodies.specs.Programs.{AreCodesOf, KeepScript}
-use Rattle.run_base.specs.Jobs.{cpus_in}
-use Rattle.run_base.proofs.CodeLemmas.{few_slots, jobs_run}
+use Rattle.code_runs.specs.Coding.{CanRunCode, code_replay, coding}
+use Rattle.code_runs.specs.Programs.{AreCodesOf, KeepScript}
+use Rattle.run_output.specs.Jobs.{cpus_in}
+use Rattle.run_output.proofs.CodeLemmas.{few_slots, jobs_run}
 use Rattle.thread_run.specs.Made.{IsMade}
 use Rattle.thread_run.proofs.Telling.{emit_own, run_counts, run_replayed}
 use Rattle.thread_run.proofs.run.run_threads.Goals as goal

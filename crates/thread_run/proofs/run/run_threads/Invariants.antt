@@ -1,4 +1,4 @@
-use Rattle.run_base.specs.Jobs.{world_for}
+use Rattle.run_output.specs.Jobs.{world_for}
 use Rattle.thread_run.proofs.run.run_threads.Given as goal
 
 abbrev pub ghost-output_of : goal.ghost-output_of

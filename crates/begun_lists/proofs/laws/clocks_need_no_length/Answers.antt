@@ -1,5 +1,0 @@
-use Rattle.begun_lists.proofs.WholeLists.{clocks}
-use Rattle.begun_lists.proofs.laws.clocks_need_no_length.Goals as goal
-
-pub returns : goal.returns
-returns c = λ main begun steps between before s after cut. clocks main begun steps between before s after cut

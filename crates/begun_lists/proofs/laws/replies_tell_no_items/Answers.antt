@@ -1,5 +1,0 @@
-use Rattle.begun_lists.proofs.BlindReplies.{replies_alike}
-use Rattle.begun_lists.proofs.laws.replies_tell_no_items.Goals as goal
-
-pub returns : goal.returns
-returns c = λ maps cpus object before others op other same now. replies_alike maps cpus object before others op other same now

@@ -1,5 +1,0 @@
-use Rattle.begun_lists.proofs.NoFurther.{wrong_step}
-use Rattle.begun_lists.proofs.laws.steps_that_none_follow_are_wrong.Goals as goal
-
-pub returns : goal.returns
-returns c = λ p before s more begun none. wrong_step p before s more begun none

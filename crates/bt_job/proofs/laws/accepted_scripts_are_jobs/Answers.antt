@@ -1,5 +1,0 @@
-use Rattle.bt_job.proofs.Jobs.{is_job}
-use Rattle.bt_job.proofs.laws.accepted_scripts_are_jobs.Goals as goal
-
-pub returns : goal.returns
-returns c = λ script typed attached r valid none to types. is_job script typed attached r to types valid none

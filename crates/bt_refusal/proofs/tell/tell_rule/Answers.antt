@@ -1,4 +1,0 @@
-use Rattle.bt_refusal.proofs.tell.tell_rule.Goals as goal
-
-pub returns : goal.returns
-returns g c = rw (← c.from.ensures) c.write_line.ensures

@@ -1,5 +1,0 @@
-use Rattle.code_bodies.proofs.laws.codes_take_few.Goals as goal
-use Rattle.code_bodies.proofs.Few.{codes_take_few}
-
-pub returns : goal.returns
-returns c script codes actors actor few = codes_take_few script codes actors actor few

@@ -1,7 +1,0 @@
-use Rattle.std.proofs.Common.{ℕ, ◌<◌, IsTrue, slice_index_or}
-use Rattle.step_follower.specs.declared.follow.Reached.{Reached}
-use Rattle.step_check.proofs.check.are_all_on.Given as goal
-
--- those before this one made all their steps on the list
-abbrev pub invariant-loop-reached : goal.invariant-loop-reached
-invariant-loop-reached l = (actor : ℕ) (d : Reached) → actor < l.reached-index → IsTrue (slice_index_or l.each actor d).on_list

@@ -1,4 +1,0 @@
-use Rattle.step_check.proofs.ends.end_of.Given as goal
-
-abbrev pub ghost-read_maps : goal.ghost-read_maps
-ghost-read_maps g a = g.at

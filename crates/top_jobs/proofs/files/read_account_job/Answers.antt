@@ -1,0 +1,108 @@
+use Rattle.std.proofs.Common.{[], ◌∷◌, refl, ◌∙◌}
+use Rattle.std.specs.Prelude.{Ok, Err}
+use Rattle.bt_io.specs.Parts.{joined}
+use Rattle.top_refusals.specs.declared.refusal.Operand.TheVariants.{Script, Recording, Account}
+use Rattle.top_jobs.specs.declared.files.AccountJob.{AccountJob}
+use Rattle.top_jobs.specs.Doing.{IsRead}
+use Rattle.top_refusals.specs.Orders.{file_of, on_account}
+use Rattle.top_jobs.specs.Reads.{shelf_use}
+use Rattle.top_jobs.proofs.FailedNames.{failed_among, failed_later, judged_failed}
+use Rattle.top_jobs.proofs.OneRead.{found_of, named_first, named_next, read_from, two_asked, unread_from}
+use Rattle.top_jobs.proofs.Reading.{all_read, file_unread}
+use Rattle.top_jobs.proofs.files.read_account_job.Goals as goal
+
+pub returns-in-Err-clause-performs : goal.returns-in-Err-clause-performs
+returns-in-Err-clause-performs g c =
+    file_unread _ (file_of Script c.args.script.now) (file_of Recording c.args.recording.now ∷ file_of Account c.args.account.now ∷ []) [] [] c.in-Err.refusal tt tt
+    c.in-Err.ensures.unread _ c.in-Err.ensures.named_unless (named_first _ _ c.args.script.now c.read_file.ensures.named_or_not)
+
+pub returns-in-Err-clause-fault_named : goal.returns-in-Err-clause-fault_named
+returns-in-Err-clause-fault_named g c =
+    let seen = shelf_use g.S.Shelf.held g.S.Shelf.faults g.S.Shelf.asked c.args.shelf.now c.read_file.new.shelf in
+    failed_among (on_account c.args.script.now c.args.recording.now c.args.account.now) (file_of Script c.args.script.now) seen c.in-Err.refusal _ _ refl
+    c.in-Err.ensures.unread c.in-Err.ensures.fault_named
+
+pub returns-in-Err-read_parts-clause-performs : goal.returns-in-Err-read_parts-clause-performs
+returns-in-Err-read_parts-clause-performs g c =
+    let seen = shelf_use g.S.Shelf.held g.S.Shelf.faults g.S.Shelf.asked c.args.shelf.now c.read_parts.new.shelf in
+    let between = shelf_use g.S.Shelf.held g.S.Shelf.faults g.S.Shelf.asked c.read_file.new.shelf c.read_parts.new.shelf in
+    file_unread seen (file_of Recording c.args.recording.now) (file_of Account c.args.account.now ∷ []) (file_of Script c.args.script.now ∷ [])
+    (c.in-Ok.text.items ∷ []) c.in-Err-read_parts.refusal (c.in-Ok.ensures.read, tt) ((λ e. cc, (λ e. cc, tt)), tt)
+    (unread_from seen between (file_of Recording c.args.recording.now) c.in-Err-read_parts.refusal c.read_file.ensures.kept c.read_file.ensures.later refl
+    c.in-Err-read_parts.ensures.unread) _
+    (λ known. two_asked _ _ _ (c.args.script.now ∷ []) c.args.recording.now c.in-Ok.ensures.named (c.in-Err-read_parts.ensures.named_unless known))
+    (named_next _ _ _ (c.args.script.now ∷ []) c.args.recording.now c.in-Ok.ensures.named c.read_parts.ensures.named_or_not)
+
+pub returns-in-Err-read_parts-clause-fault_named : goal.returns-in-Err-read_parts-clause-fault_named
+returns-in-Err-read_parts-clause-fault_named g c =
+    let between = shelf_use g.S.Shelf.held g.S.Shelf.faults g.S.Shelf.asked c.read_file.new.shelf c.read_parts.new.shelf in
+    failed_later (on_account c.args.script.now c.args.recording.now c.args.account.now) _ _ _ c.in-Err-read_parts.refusal c.in-Ok.ensures.fault_named
+    (failed_among (on_account c.args.script.now c.args.recording.now c.args.account.now) (file_of Recording c.args.recording.now) between
+    c.in-Err-read_parts.refusal _ _ refl c.in-Err-read_parts.ensures.unread c.in-Err-read_parts.ensures.fault_named)
+
+pub returns-in-Err-read_file-clause-performs : goal.returns-in-Err-read_file-clause-performs
+returns-in-Err-read_file-clause-performs g c =
+    let held = g.S.Shelf.held c.args.shelf.now in
+    let seen = shelf_use g.S.Shelf.held g.S.Shelf.faults g.S.Shelf.asked c.args.shelf.now c.read_file-2.new.shelf in
+    let middle = shelf_use g.S.Shelf.held g.S.Shelf.faults g.S.Shelf.asked c.read_file.new.shelf c.read_file-2.new.shelf in
+    let between = shelf_use g.S.Shelf.held g.S.Shelf.faults g.S.Shelf.asked c.read_parts.new.shelf c.read_file-2.new.shelf in
+    let second : IsRead held (file_of Recording c.args.recording.now) (joined c.in-Ok-read_parts.parts.items) =
+    read_from held (g.S.Shelf.held c.read_file.new.shelf) (file_of Recording c.args.recording.now) (joined c.in-Ok-read_parts.parts.items)
+    c.read_file.ensures.kept c.in-Ok-read_parts.ensures.read in
+    let both = two_asked _ _ _ (c.args.script.now ∷ []) c.args.recording.now c.in-Ok.ensures.named c.in-Ok-read_parts.ensures.named in
+    file_unread seen (file_of Account c.args.account.now) [] (file_of Script c.args.script.now ∷ file_of Recording c.args.recording.now ∷ [])
+    (c.in-Ok.text.items ∷ (joined c.in-Ok-read_parts.parts.items) ∷ []) c.in-Err-read_file.refusal (c.in-Ok.ensures.read, (second, tt))
+    ((λ e. cc, tt), ((λ e. cc, tt), tt))
+    (unread_from seen middle (file_of Account c.args.account.now) c.in-Err-read_file.refusal c.read_file.ensures.kept c.read_file.ensures.later refl
+    (unread_from middle between (file_of Account c.args.account.now) c.in-Err-read_file.refusal c.read_parts.ensures.kept c.read_parts.ensures.later refl
+    c.in-Err-read_file.ensures.unread)) _
+    (λ known. two_asked _ _ _ (c.args.script.now ∷ c.args.recording.now ∷ []) c.args.account.now both (c.in-Err-read_file.ensures.named_unless known))
+    (named_next _ _ _ (c.args.script.now ∷ c.args.recording.now ∷ []) c.args.account.now both c.read_file-2.ensures.named_or_not)
+
+pub returns-in-Err-read_file-clause-fault_named : goal.returns-in-Err-read_file-clause-fault_named
+returns-in-Err-read_file-clause-fault_named g c =
+    let between = shelf_use g.S.Shelf.held g.S.Shelf.faults g.S.Shelf.asked c.read_parts.new.shelf c.read_file-2.new.shelf in
+    failed_later (on_account c.args.script.now c.args.recording.now c.args.account.now) _ _ _ c.in-Err-read_file.refusal
+    (c.in-Ok-read_parts.ensures.fault_named ∙ c.in-Ok.ensures.fault_named)
+    (failed_among (on_account c.args.script.now c.args.recording.now c.args.account.now) (file_of Account c.args.account.now) between
+    c.in-Err-read_file.refusal _ _ refl c.in-Err-read_file.ensures.unread c.in-Err-read_file.ensures.fault_named)
+
+pub returns-in-Ok-judge-clause-performs : goal.returns-in-Ok-judge-clause-performs
+returns-in-Ok-judge-clause-performs g c =
+    let held = g.S.Shelf.held c.args.shelf.now in
+    let text = c.as_slice.result.now in let bytes = joined c.in-Ok-read_parts.parts.items in let account = c.in-Ok-read_file.account.items in
+    let first : IsRead held (file_of Script c.args.script.now) text = rw c.as_slice.ensures.value c.in-Ok.ensures.read in
+    let second : IsRead held (file_of Recording c.args.recording.now) bytes =
+    read_from held (g.S.Shelf.held c.read_file.new.shelf) (file_of Recording c.args.recording.now) bytes c.read_file.ensures.kept c.in-Ok-read_parts.ensures.read in
+    let third : IsRead held (file_of Account c.args.account.now) account =
+    read_from held (g.S.Shelf.held c.read_file.new.shelf) (file_of Account c.args.account.now) account c.read_file.ensures.kept
+    (read_from (g.S.Shelf.held c.read_file.new.shelf) (g.S.Shelf.held c.read_parts.new.shelf) (file_of Account c.args.account.now) account
+    c.read_parts.ensures.kept c.in-Ok-read_file.ensures.read) in
+    all_read _ (file_of Script c.args.script.now) (file_of Recording c.args.recording.now ∷ file_of Account c.args.account.now ∷ [])
+    (text ∷ bytes ∷ account ∷ []) (first, (second, (third, tt))) (Ok _) _
+    (record { job = record { short = (first.fits, (second.fits, (third.fits, tt))); of = c.in-Ok-judge.ensures.job }; account = refl })
+    tt c.in-Ok-judge.ensures.exact
+    (two_asked _ _ _ (c.args.script.now ∷ c.args.recording.now ∷ []) c.args.account.now
+    (two_asked _ _ _ (c.args.script.now ∷ []) c.args.recording.now c.in-Ok.ensures.named c.in-Ok-read_parts.ensures.named) c.in-Ok-read_file.ensures.named)
+
+pub returns-clause-performs : goal.returns-clause-performs
+returns-clause-performs g c =
+    let held = g.S.Shelf.held c.args.shelf.now in
+    let text = c.as_slice.result.now in let bytes = joined c.in-Ok-read_parts.parts.items in let account = c.in-Ok-read_file.account.items in
+    let first : IsRead held (file_of Script c.args.script.now) text = rw c.as_slice.ensures.value c.in-Ok.ensures.read in
+    let second : IsRead held (file_of Recording c.args.recording.now) bytes =
+    read_from held (g.S.Shelf.held c.read_file.new.shelf) (file_of Recording c.args.recording.now) bytes c.read_file.ensures.kept c.in-Ok-read_parts.ensures.read in
+    let third : IsRead held (file_of Account c.args.account.now) account =
+    read_from held (g.S.Shelf.held c.read_file.new.shelf) (file_of Account c.args.account.now) account c.read_file.ensures.kept
+    (read_from (g.S.Shelf.held c.read_file.new.shelf) (g.S.Shelf.held c.read_parts.new.shelf) (file_of Account c.args.account.now) account
+    c.read_parts.ensures.kept c.in-Ok-read_file.ensures.read) in
+    all_read _ (file_of Script c.args.script.now) (file_of Recording c.args.recording.now ∷ file_of Account c.args.account.now ∷ [])
+    (text ∷ bytes ∷ account ∷ []) (first, (second, (third, tt))) (Err c.in-Err-judge.refusal) _ tt c.in-Err-judge.ensures.refused c.in-Err-judge.ensures.exact
+    (two_asked _ _ _ (c.args.script.now ∷ c.args.recording.now ∷ []) c.args.account.now
+    (two_asked _ _ _ (c.args.script.now ∷ []) c.args.recording.now c.in-Ok.ensures.named c.in-Ok-read_parts.ensures.named) c.in-Ok-read_file.ensures.named)
+
+pub returns-clause-fault_named : goal.returns-clause-fault_named
+returns-clause-fault_named g c =
+    judged_failed {A = AccountJob} (on_account c.args.script.now c.args.recording.now c.args.account.now) c.as_slice.result.now (joined c.in-Ok-read_parts.parts.items) _ _
+    (Err c.in-Err-judge.refusal) c.in-Err-judge.ensures.refused
+    (c.in-Ok-read_file.ensures.fault_named ∙ (c.in-Ok-read_parts.ensures.fault_named ∙ c.in-Ok.ensures.fault_named))

@@ -1,5 +1,0 @@
-//! The bodies of a script by the walk of their trees.
-#![tactic(auto)]
-
-pub mod laws;
-pub mod walks;
