@@ -4,8 +4,8 @@ ghost use Rattle.std.specs.Prelude.{◌≡◌};
 use bpf_check::check::check_code;
 use bpf_encode::decode::decode;
 use bpf_interp::code::Code;
+use bpf_interp::helper_calls::{HelperCalls, HelperFault};
 use bpf_interp::machine::{Ended, Machine};
-use bpf_interp::ports::{PortFault, Ports};
 use bpf_interp::regions::Regions;
 use bt_core::items::Items;
 use std::alloc::Global;
@@ -16,7 +16,7 @@ use typed_tree::script::Typed;
 #[derive(Drop)]
 struct NoCalls;
 
-impl Ports for NoCalls {
+impl HelperCalls for NoCalls {
     ghost use Rattle.std.specs.Prelude.{[]};
     ghost use Rattle.bt_core.specs.Interaction.{Ended};
     ghost use Rattle.bpf_insn.specs.Machine.{BadArgument};
@@ -36,8 +36,8 @@ impl Ports for NoCalls {
         _number: u32,
         _args: [u64; 5],
         _memory: &mut Regions,
-    ) -> Result<u64, PortFault> {
-        Err(PortFault::Helper)
+    ) -> Result<u64, HelperFault> {
+        Err(HelperFault::Helper)
     }
 }
 

@@ -6,7 +6,7 @@ ghost use Rattle.std.specs.Option.{option_copied};
 
 use crate::steps::tell_steps;
 use anyhow::{Context, Result};
-use bpf_interp::ports::{PortFault, Ports};
+use bpf_interp::helper_calls::{HelperCalls, HelperFault};
 use bpf_interp::regions::Regions;
 use bt_core::item::Item;
 use bt_core::items::Items;
@@ -181,7 +181,7 @@ fn script(alloc: Global) -> Result<Typed, Memory> {
 /// What a call gave: its answer, its steps, and the eight bytes of the frame from byte 16 on.
 #[derive(Drop)]
 struct Asked {
-    answer: Result<u64, PortFault>,
+    answer: Result<u64, HelperFault>,
     steps: Items<Step>,
     word: u64,
 }

@@ -5,8 +5,8 @@ use anyhow::{Context, Result, bail};
 use bpf_encode::decode::decode;
 use bpf_interp::Trap;
 use bpf_interp::code::Code;
+use bpf_interp::helper_calls::{HelperCalls, HelperFault};
 use bpf_interp::machine::{Ended, Machine};
-use bpf_interp::ports::{PortFault, Ports};
 use bpf_interp::regions::Regions;
 use bt_core::items::Items;
 use std::alloc::Global;
@@ -21,7 +21,7 @@ struct Watcher {
     stack: [u8; 32],
 }
 
-impl Ports for Watcher {
+impl HelperCalls for Watcher {
     ghost use Rattle.std.specs.Prelude.{[]};
     ghost use Rattle.bt_core.specs.Interaction.{Ended};
     ghost use Rattle.bpf_insn.specs.Machine.{Gave};
@@ -41,7 +41,7 @@ impl Ports for Watcher {
         number: u32,
         args: [u64; 5],
         memory: &mut Regions,
-    ) -> Result<u64, PortFault> {
+    ) -> Result<u64, HelperFault> {
         self.earlier = self.last;
         self.last = args;
         self.number = number;

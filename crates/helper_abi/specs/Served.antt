@@ -5,8 +5,8 @@ use Rattle.bt_core.specs.declared.map.MapDecl.{MapDecl}
 use Rattle.bt_core.specs.declared.map.MapId.{MapId}
 use Rattle.bt_core.specs.Ports.{Setting}
 use Rattle.bpf_insn.specs.Regions.{is_in_frame}
-use Rattle.bpf_interp.specs.declared.ports.PortFault.{PortFault}
-use Rattle.bpf_interp.specs.declared.ports.PortFault.TheVariants.{Address, Helper, Memory}
+use Rattle.bpf_interp.specs.declared.helper_calls.HelperFault.{HelperFault}
+use Rattle.bpf_interp.specs.declared.helper_calls.HelperFault.TheVariants.{Address, Helper, Memory}
 use Rattle.typed_tree.specs.declared.script.Typed.{Typed}
 use Rattle.typed_tree.specs.Scope.{is_fine_decl}
 use Rattle.helper_abi.specs.Helpers.{Desk}
@@ -33,11 +33,11 @@ abbrev pub HasRoom : Setting → MapId → ℕ → Type 0
 HasRoom setting m to = IsSomeAnd (slice_get setting.maps m.0) (λ decl. IsTrue (is_in_frame to (shape_bytes (shape_of_kind decl.kind))))
 
 -- a bad address comes exactly where there is nothing to read, and want of memory may come anywhere
-abbrev pub IsReadFault : {A : Type 0} → Option A → PortFault → Type 0
+abbrev pub IsReadFault : {A : Type 0} → Option A → HelperFault → Type 0
 IsReadFault r Address = r ≡ None
 IsReadFault r Helper = ⊥
 IsReadFault r (Memory _) = Unit {0}
 
 -- what is read there
-abbrev pub Reads : {A : Type 0} → Option A → Result A PortFault → Type 0
+abbrev pub Reads : {A : Type 0} → Option A → Result A HelperFault → Type 0
 Reads r result = MatchResult result (λ a. r ≡ Some a) (λ fault. IsReadFault r fault)

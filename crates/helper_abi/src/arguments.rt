@@ -1,13 +1,13 @@
 // The arguments of a format in memory, by its pieces alone: no list of their shapes is made.
 ghost use Rattle.std.specs.Prelude.{◌≡◌, ◌<◌, ◌^◌, length, None, Err, IfOk, IfSome, MatchOption};
 ghost use Rattle.bt_core.specs.Kinds.{HasShape};
-ghost use Rattle.bpf_interp.specs.declared.ports.PortFault.TheVariants.{Address};
+ghost use Rattle.bpf_interp.specs.declared.helper_calls.HelperFault.TheVariants.{Address};
 ghost use Rattle.fmt_text.specs.Arguments.{argument_shapes};
 ghost use Rattle.helper_abi.specs.Reading.{bytes_of_shapes, values_in, values_at};
 ghost use Rattle.helper_abi.specs.Served.{Reads};
 
 use crate::reading::{bytes_at, longest_region, shape_bytes, value_in};
-use bpf_interp::ports::PortFault;
+use bpf_interp::helper_calls::HelperFault;
 use bpf_interp::regions::Regions;
 use bt_core::items::Items;
 use bt_core::memory::Memory;
@@ -73,25 +73,25 @@ fn arguments_in(
 ///
 /// # Errors
 ///
-/// `PortFault::Address` where their bytes do not lie wholly inside one region, and want of memory.
+/// `HelperFault::Address` where their bytes do not lie wholly inside one region, and want of memory.
 pub fn arguments_at(
     alloc: Global,
     memory: &Regions,
     pieces: &[Piece],
     address: u64,
-) -> Result<Items<Value>, PortFault>
+) -> Result<Items<Value>, HelperFault>
     ensures read { Reads (values_at memory.now (argument_shapes pieces.now) address) result }
     ensures outside { values_at memory.now (argument_shapes pieces.now) address ≡ None → result ≡ Err Address }
     ensures shaped { IfOk result (λ values. HasShape (argument_shapes pieces.now) values) }
 {
     let Some(room) = argument_room(pieces, longest_region(memory)) else {
-        return Err(PortFault::Address);
+        return Err(HelperFault::Address);
     };
     let Some(bytes) = bytes_at(memory, address, room.bytes) else {
-        return Err(PortFault::Address);
+        return Err(HelperFault::Address);
     };
     match arguments_in(alloc, room.count, pieces, bytes) {
         Ok(values) => Ok(values),
-        Err(want) => Err(PortFault::Memory(want)),
+        Err(want) => Err(HelperFault::Memory(want)),
     }
 }

@@ -1,7 +1,7 @@
 // The port of helpers.
 ghost use Rattle.std.specs.Prelude.{◌≡◌, Err, None};
 ghost use Rattle.bpf_interp.specs.Running.{Called};
-ghost use Rattle.bpf_interp.specs.declared.ports.PortFault.TheVariants.{Helper as BadArgument};
+ghost use Rattle.bpf_interp.specs.declared.helper_calls.HelperFault.TheVariants.{Helper as BadArgument};
 ghost use Rattle.helper_abi.specs.Helpers.{helpers, helper_steps};
 ghost use Rattle.helper_abi.specs.Numbers.{helper_at};
 ghost use Rattle.helper_abi.specs.Served.{IsFor, desk_of};
@@ -10,7 +10,7 @@ use crate::helper::Helper;
 use crate::helpers::{
     aggregate, cut, delete, exit, get, print, printf, read_agg, read_str, set, sweep_map,
 };
-use bpf_interp::ports::{PortFault, Ports};
+use bpf_interp::helper_calls::{HelperCalls, HelperFault};
 use bpf_interp::regions::Regions;
 use bt_core::port::Port;
 use map_ops::sweep::Sweep;
@@ -56,7 +56,7 @@ fn act<P: Port>(
     helper: Helper,
     args: (u64, u64, u64),
     memory: &mut Regions,
-) -> Result<u64, PortFault>
+) -> Result<u64, HelperFault>
     requires { IsFor typed.now.maps actor actors (P.fixed port.old).setting }
     ensures called { let d = desk_of typed.now actor actors in
         Called (helper_steps d helper args.0 args.1 args.2 memory.old) (P.steps port.old) (P.steps port.new) result memory.new.frame }
@@ -92,7 +92,7 @@ fn perform<P: Port>(
     number: u32,
     args: [u64; 5],
     memory: &mut Regions,
-) -> Result<u64, PortFault>
+) -> Result<u64, HelperFault>
     requires { IsFor typed.now.maps actor actors (P.fixed port.old).setting }
     ensures called { Called (helpers (desk_of typed.now actor actors) number args memory.old) (P.steps port.old) (P.steps port.new) result memory.new.frame }
     ensures argument { helper_at number ≡ None → result ≡ Err BadArgument }
@@ -101,13 +101,13 @@ fn perform<P: Port>(
     ensures payload { memory.new.payload ≡ memory.old.payload }
 {
     let Some(helper) = Helper::at(number) else {
-        return Err(PortFault::Helper);
+        return Err(HelperFault::Helper);
     };
     let args = (args[0], args[1], args[2]);
     act(alloc, port, typed, actor, actors, helper, args, memory)
 }
 
-impl<'a, 'b, P: Port> Ports for HelperPort<'a, 'b, P> {
+impl<'a, 'b, P: Port> HelperCalls for HelperPort<'a, 'b, P> {
     ghost use Rattle.std.specs.Prelude.{[], ◌∷◌};
     ghost use Rattle.helper_abi.specs.Helpers.{helpers};
     ghost use Rattle.helper_abi.specs.Served.{desk_of};
@@ -128,7 +128,7 @@ impl<'a, 'b, P: Port> Ports for HelperPort<'a, 'b, P> {
         number: u32,
         args: [u64; 5],
         memory: &mut Regions,
-    ) -> Result<u64, PortFault> {
+    ) -> Result<u64, HelperFault> {
         perform(
             alloc,
             self.port,

@@ -4,7 +4,7 @@ ghost use Rattle.bt_core.specs.declared.step.Step.{Step};
 ghost use Rattle.bt_core.specs.Want.{out_of_memory};
 ghost use Rattle.std.specs.Option.{option_copied};
 ghost use Rattle.bpf_interp.specs.Running.{Called};
-ghost use Rattle.bpf_interp.specs.declared.ports.PortFault.TheVariants.{Helper as BadArgument, Memory as NoMemory};
+ghost use Rattle.bpf_interp.specs.declared.helper_calls.HelperFault.TheVariants.{Helper as BadArgument, Memory as NoMemory};
 ghost use Rattle.typed_tree.specs.Scope.{is_agg, is_summed_kind};
 ghost use Rattle.helper_abi.specs.Helpers.{numbered, table_map, value_map, summed_map, are_shown, get, set, delete, aggregate, read_agg, print, sweep_map, printf, exit, cut, read_str};
 ghost use Rattle.helper_abi.specs.Served.{ServesMaps};
@@ -13,7 +13,7 @@ use crate::arguments::arguments_at;
 use crate::printing::{print_map, sweep_all};
 use crate::reading::{TEXT_BYTES, key_at, payload_text, put, shape_bytes, shape_of_kind, value_at};
 use crate::steps::{get_into, sum_into, tell};
-use bpf_interp::ports::PortFault;
+use bpf_interp::helper_calls::HelperFault;
 use bpf_interp::regions::Regions;
 use bt_core::item::Item;
 use bt_core::items::Items;
@@ -92,7 +92,7 @@ pub fn get<P: Port>(
     key: u64,
     to: u64,
     memory: &mut Regions,
-) -> Result<u64, PortFault>
+) -> Result<u64, HelperFault>
     requires { ServesMaps maps.now (P.fixed port.old).setting }
     ensures called { Called (get maps.now map key to memory.old) (P.steps port.old) (P.steps port.new) result memory.new.frame }
     ensures argument { value_map maps.now map ≡ None → result ≡ Err BadArgument }
@@ -101,10 +101,10 @@ pub fn get<P: Port>(
     ensures payload { memory.new.payload ≡ memory.old.payload }
 {
     let Some(decl) = value_map(maps, map) else {
-        return Err(PortFault::Helper);
+        return Err(HelperFault::Helper);
     };
     if !memory.in_frame(to, shape_bytes(shape_of_kind(decl.kind))) {
-        return Err(PortFault::Address);
+        return Err(HelperFault::Address);
     }
     let map = MapId(map as u32);
     match key_at(alloc, memory, decl.key_shape.as_slice(), key) {
@@ -122,17 +122,17 @@ pub fn set<P: Port>(
     key: u64,
     value: u64,
     memory: &Regions,
-) -> Result<u64, PortFault>
+) -> Result<u64, HelperFault>
     requires { ServesMaps maps.now (P.fixed port.old).setting }
     ensures called { Called (set maps.now map key value memory.now) (P.steps port.old) (P.steps port.new) result memory.now.frame }
     ensures argument { value_map maps.now map ≡ None → result ≡ Err BadArgument }
     ensures kept { P.fixed port.new ≡ P.fixed port.old }
 {
     let Some(decl) = value_map(maps, map) else {
-        return Err(PortFault::Helper);
+        return Err(HelperFault::Helper);
     };
     let Some(value) = value_at(memory, shape_of_kind(decl.kind), value) else {
-        return Err(PortFault::Address);
+        return Err(HelperFault::Address);
     };
     let key = match key_at(alloc, memory, decl.key_shape.as_slice(), key) {
         Ok(key) => key,
@@ -151,14 +151,14 @@ pub fn delete<P: Port>(
     map: u64,
     key: u64,
     memory: &Regions,
-) -> Result<u64, PortFault>
+) -> Result<u64, HelperFault>
     requires { ServesMaps maps.now (P.fixed port.old).setting }
     ensures called { Called (delete maps.now map key memory.now) (P.steps port.old) (P.steps port.new) result memory.now.frame }
     ensures argument { value_map maps.now map ≡ None → result ≡ Err BadArgument }
     ensures kept { P.fixed port.new ≡ P.fixed port.old }
 {
     let Some(decl) = value_map(maps, map) else {
-        return Err(PortFault::Helper);
+        return Err(HelperFault::Helper);
     };
     let key = match key_at(alloc, memory, decl.key_shape.as_slice(), key) {
         Ok(key) => key,
@@ -179,7 +179,7 @@ pub fn aggregate<P: Port>(
     key: u64,
     number: u64,
     memory: &Regions,
-) -> Result<u64, PortFault>
+) -> Result<u64, HelperFault>
     requires served { ServesMaps maps.now (P.fixed port.old).setting }
     requires actor { actor < (P.fixed port.old).setting.actors }
     ensures called { Called (aggregate maps.now actor map key number memory.now) (P.steps port.old) (P.steps port.new) result memory.now.frame }
@@ -187,7 +187,7 @@ pub fn aggregate<P: Port>(
     ensures kept { P.fixed port.new ≡ P.fixed port.old }
 {
     let Some(decl) = table_map(maps, map) else {
-        return Err(PortFault::Helper);
+        return Err(HelperFault::Helper);
     };
     let key = match key_at(alloc, memory, decl.key_shape.as_slice(), key) {
         Ok(key) => key,
@@ -207,7 +207,7 @@ pub fn read_agg<P: Port>(
     key: u64,
     to: u64,
     memory: &mut Regions,
-) -> Result<u64, PortFault>
+) -> Result<u64, HelperFault>
     requires served { ServesMaps maps.now (P.fixed port.old).setting }
     requires actors { (P.fixed port.old).setting.actors ≡ actors }
     ensures called { Called (read_agg maps.now actors map key to memory.old) (P.steps port.old) (P.steps port.new) result memory.new.frame }
@@ -217,10 +217,10 @@ pub fn read_agg<P: Port>(
     ensures payload { memory.new.payload ≡ memory.old.payload }
 {
     let Some(decl) = summed_map(maps, map) else {
-        return Err(PortFault::Helper);
+        return Err(HelperFault::Helper);
     };
     if !memory.in_frame(to, 8) {
-        return Err(PortFault::Address);
+        return Err(HelperFault::Address);
     }
     let key = match key_at(alloc, memory, decl.key_shape.as_slice(), key) {
         Ok(key) => key,
@@ -242,7 +242,7 @@ pub fn print<P: Port>(
     top: u64,
     div: u64,
     memory: &Regions,
-) -> Result<u64, PortFault>
+) -> Result<u64, HelperFault>
     requires served { ServesMaps maps.now (P.fixed port.old).setting }
     requires actors { (P.fixed port.old).setting.actors ≡ actors }
     ensures called { Called (print maps.now actors map top div memory.now) (P.steps port.old) (P.steps port.new) result memory.now.frame }
@@ -251,10 +251,10 @@ pub fn print<P: Port>(
     ensures kept { P.fixed port.new ≡ P.fixed port.old }
 {
     let Some(decl) = numbered(maps, map) else {
-        return Err(PortFault::Helper);
+        return Err(HelperFault::Helper);
     };
     if !are_shown(top, div) {
-        return Err(PortFault::Helper);
+        return Err(HelperFault::Helper);
     }
     let map = MapId(map as u32);
     print_map(
@@ -278,7 +278,7 @@ pub fn sweep_map<P: Port>(
     sweep: Sweep,
     map: u64,
     memory: &Regions,
-) -> Result<u64, PortFault>
+) -> Result<u64, HelperFault>
     requires served { ServesMaps maps.now (P.fixed port.old).setting }
     requires actors { (P.fixed port.old).setting.actors ≡ actors }
     ensures called { Called (sweep_map maps.now actors sweep map memory.now) (P.steps port.old) (P.steps port.new) result memory.now.frame }
@@ -286,7 +286,7 @@ pub fn sweep_map<P: Port>(
     ensures kept { P.fixed port.new ≡ P.fixed port.old }
 {
     let Some(decl) = numbered(maps, map) else {
-        return Err(PortFault::Helper);
+        return Err(HelperFault::Helper);
     };
     sweep_all(
         alloc,
@@ -307,13 +307,13 @@ pub fn printf<P: Port>(
     format: u64,
     address: u64,
     memory: &Regions,
-) -> Result<u64, PortFault>
+) -> Result<u64, HelperFault>
     ensures called { Called (printf formats.now format address memory.now) (P.steps port.old) (P.steps port.new) result memory.now.frame }
     ensures argument { numbered formats.now format ≡ None → result ≡ Err BadArgument }
     ensures kept { P.fixed port.new ≡ P.fixed port.old }
 {
     let Some(pieces) = numbered(formats, format) else {
-        return Err(PortFault::Helper);
+        return Err(HelperFault::Helper);
     };
     let values = match arguments_at(alloc, memory, pieces.as_slice(), address) {
         Ok(values) => values,
@@ -325,7 +325,7 @@ pub fn printf<P: Port>(
 }
 
 /// The run is stopped.
-pub fn exit<P: Port>(alloc: Global, port: &mut P, memory: &Regions) -> Result<u64, PortFault>
+pub fn exit<P: Port>(alloc: Global, port: &mut P, memory: &Regions) -> Result<u64, HelperFault>
     ensures called { Called (exit memory.now) (P.steps port.old) (P.steps port.new) result memory.now.frame }
     ensures kept { P.fixed port.new ≡ P.fixed port.old }
 {
@@ -339,27 +339,27 @@ pub fn cut<P: Port>(
     port: &mut P,
     line: u64,
     memory: &Regions,
-) -> Result<u64, PortFault>
+) -> Result<u64, HelperFault>
     ensures called { Called (cut line memory.now) (P.steps port.old) (P.steps port.new) result memory.now.frame }
     ensures argument { 2 ^ 32 ≤ line → result ≡ Err BadArgument }
     ensures kept { P.fixed port.new ≡ P.fixed port.old }
 {
     if line >= 0x1_0000_0000 {
-        return Err(PortFault::Helper);
+        return Err(HelperFault::Helper);
     }
     let mut op = Op::Emit(Item::Cut { line: line as u32 });
     tell(alloc, port, ObjectId::Out, &mut op, memory)
 }
 
 /// A string of the payload is written at an address. No step is made.
-pub fn read_str(to: u64, place: u64, count: u64, memory: &mut Regions) -> Result<u64, PortFault>
+pub fn read_str(to: u64, place: u64, count: u64, memory: &mut Regions) -> Result<u64, HelperFault>
     ensures called { (steps : List Step) → Called (read_str to place count memory.old) steps steps result memory.new.frame }
     ensures not_memory { result ≢ Err (NoMemory out_of_memory) }
     ensures context { memory.new.context ≡ memory.old.context }
     ensures payload { memory.new.payload ≡ memory.old.payload }
 {
     if !memory.in_frame(to, TEXT_BYTES as u64) {
-        return Err(PortFault::Address);
+        return Err(HelperFault::Address);
     }
     let text = payload_text(place, count, memory.payload());
     put(memory, to, &Value::Str(text));

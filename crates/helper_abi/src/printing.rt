@@ -5,7 +5,7 @@ ghost use Rattle.map_ops.specs.Holders.{CanSweep};
 ghost use Rattle.helper_abi.specs.Steps.{frame_kept};
 ghost use Rattle.map_ops.specs.Asking.{printed, swept};
 
-use bpf_interp::ports::PortFault;
+use bpf_interp::helper_calls::HelperFault;
 use bpf_interp::regions::Regions;
 use bt_core::map::{MapId, MapKind};
 use bt_core::port::Port;
@@ -23,7 +23,7 @@ pub fn print_map<P: Port>(
     div: i64,
     actors: u32,
     memory: &Regions,
-) -> Result<u64, PortFault>
+) -> Result<u64, HelperFault>
     requires { CanSweep (P.fixed port.old).setting map kind actors }
     ensures called { Called (frame_kept memory.now (printed kind map top div actors))
         (P.steps port.old) (P.steps port.new) result memory.now.frame }
@@ -31,7 +31,7 @@ pub fn print_map<P: Port>(
 {
     match printing::print_map(alloc, kind, map, top, div, actors, port) {
         Ok(()) => Ok(0),
-        Err(want) => Err(PortFault::Memory(want)),
+        Err(want) => Err(HelperFault::Memory(want)),
     }
 }
 
@@ -44,7 +44,7 @@ pub fn sweep_all<P: Port>(
     map: MapId,
     actors: u32,
     memory: &Regions,
-) -> Result<u64, PortFault>
+) -> Result<u64, HelperFault>
     requires { CanSweep (P.fixed port.old).setting map kind actors }
     ensures called { Called (frame_kept memory.now (swept sweep kind map actors))
         (P.steps port.old) (P.steps port.new) result memory.now.frame }
@@ -52,6 +52,6 @@ pub fn sweep_all<P: Port>(
 {
     match ask_each(alloc, sweep, kind, map, actors, port) {
         Ok(_) => Ok(0),
-        Err(want) => Err(PortFault::Memory(want)),
+        Err(want) => Err(HelperFault::Memory(want)),
     }
 }

@@ -5,12 +5,12 @@ ghost use Rattle.bt_core.specs.declared.value.Value.TheVariants as variants;
 ghost use Rattle.bt_core.specs.Kinds.{HasShape, IsOfShape};
 ghost use Rattle.bt_core.specs.KeyBytes.{value_bytes};
 ghost use Rattle.bpf_insn.specs.Regions.{bytes_in, is_in_frame, stored};
-ghost use Rattle.bpf_interp.specs.declared.ports.PortFault.TheVariants.{Address};
+ghost use Rattle.bpf_interp.specs.declared.helper_calls.HelperFault.TheVariants.{Address};
 ghost use Rattle.helper_abi.specs.Reading.{shape_bytes, bytes_of_shapes, value_in, values_in, bytes_at, values_at, value_at, shape_of_kind, payload_text};
 ghost use Rattle.helper_abi.specs.Served.{Reads};
 ghost use Rattle.helper_abi.specs.Writing.{room_of};
 
-use bpf_interp::ports::PortFault;
+use bpf_interp::helper_calls::HelperFault;
 use bpf_interp::regions::Regions;
 use bt_core::items::Items;
 use bt_core::key::Key;
@@ -127,23 +127,23 @@ fn value_bytes_at<'a>(memory: &'a Regions, shapes: &[Shape], address: u64) -> Op
 ///
 /// # Errors
 ///
-/// `PortFault::Address` where their bytes do not lie wholly inside one region, and want of memory.
+/// `HelperFault::Address` where their bytes do not lie wholly inside one region, and want of memory.
 pub fn values_at(
     alloc: Global,
     memory: &Regions,
     shapes: &[Shape],
     address: u64,
-) -> Result<Items<Value>, PortFault>
+) -> Result<Items<Value>, HelperFault>
     ensures read { Reads (values_at memory.now shapes.now address) result }
     ensures outside { values_at memory.now shapes.now address ≡ None → result ≡ Err Address }
     ensures shaped { IfOk result (λ values. HasShape shapes.now values) }
 {
     let Some(bytes) = value_bytes_at(memory, shapes, address) else {
-        return Err(PortFault::Address);
+        return Err(HelperFault::Address);
     };
     match values_in(alloc, shapes, bytes) {
         Ok(values) => Ok(values),
-        Err(want) => Err(PortFault::Memory(want)),
+        Err(want) => Err(HelperFault::Memory(want)),
     }
 }
 
@@ -169,7 +169,7 @@ pub fn key_at(
     memory: &Regions,
     shapes: &[Shape],
     address: u64,
-) -> Result<Key, PortFault>
+) -> Result<Key, HelperFault>
     requires { length shapes.now ≤ MOST_PARTS }
     ensures read { Reads (values_at memory.now shapes.now address) result }
     ensures outside { values_at memory.now shapes.now address ≡ None → result ≡ Err Address }
@@ -178,7 +178,7 @@ pub fn key_at(
     if let [shape] = shapes {
         return match key_of_one(memory, *shape, address) {
             Some(key) => Ok(key),
-            None => Err(PortFault::Address),
+            None => Err(HelperFault::Address),
         };
     }
     match values_at(alloc, memory, shapes, address) {

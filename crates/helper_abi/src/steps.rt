@@ -11,7 +11,7 @@ ghost use Rattle.helper_abi.specs.Steps.{frame_kept, got_into, summed_into};
 ghost use Rattle.map_ops.specs.Asking.{tells};
 
 use crate::reading::put;
-use bpf_interp::ports::PortFault;
+use bpf_interp::helper_calls::HelperFault;
 use bpf_interp::regions::Regions;
 use bt_core::key::Key;
 use bt_core::map::{MapId, MapKind};
@@ -23,21 +23,21 @@ use map_ops::summing::sum_under;
 use std::alloc::Global;
 
 /// Makes a step whose reply says nothing. What the step has to keep of the operation is taken out of it, so nothing is said of the
-/// operation behind it. [`PortFault::Memory`] where there is no room for the step.
+/// operation behind it. [`HelperFault::Memory`] where there is no room for the step.
 pub fn tell<P: Port>(
     alloc: Global,
     port: &mut P,
     object: ObjectId,
     op: &mut Op,
     memory: &Regions,
-) -> Result<u64, PortFault>
+) -> Result<u64, HelperFault>
     requires { CanStep (P.fixed port.old).setting object op.old }
     ensures called { Called (frame_kept memory.now (tells object op.old)) (P.steps port.old) (P.steps port.new) result memory.now.frame }
     ensures kept { P.fixed port.new ≡ P.fixed port.old }
 {
     match access::tell(alloc, object, op, port) {
         Ok(()) => Ok(0),
-        Err(want) => Err(PortFault::Memory(want)),
+        Err(want) => Err(HelperFault::Memory(want)),
     }
 }
 
@@ -49,7 +49,7 @@ pub fn get_into<P: Port>(
     key: Key,
     to: u64,
     memory: &mut Regions,
-) -> Result<u64, PortFault>
+) -> Result<u64, HelperFault>
     requires can { CanStep (P.fixed port.old).setting (part map key) (ops.Get key) }
     requires room { HasRoom (P.fixed port.old).setting map to }
     ensures called { Called (got_into memory.old map key to) (P.steps port.old) (P.steps port.new) result memory.new.frame }
@@ -62,7 +62,7 @@ pub fn get_into<P: Port>(
             put(memory, to, &value);
             Ok(0)
         }
-        Err(want) => Err(PortFault::Memory(want)),
+        Err(want) => Err(HelperFault::Memory(want)),
     }
 }
 
@@ -76,7 +76,7 @@ pub fn sum_into<P: Port>(
     to: u64,
     actors: u32,
     memory: &mut Regions,
-) -> Result<u64, PortFault>
+) -> Result<u64, HelperFault>
     requires can { CanSweep (P.fixed port.old).setting map kind actors }
     requires gathers { IsAggregation kind }
     requires room { IsTrue (is_in_frame to 8) }
@@ -90,6 +90,6 @@ pub fn sum_into<P: Port>(
             put(memory, to, &Value::Int(number));
             Ok(0)
         }
-        Err(want) => Err(PortFault::Memory(want)),
+        Err(want) => Err(HelperFault::Memory(want)),
     }
 }

@@ -2,8 +2,8 @@
 use bpf_encode::decode::decode;
 use bpf_encode::program::Program;
 use bpf_interp::code::Code;
+use bpf_interp::helper_calls::{HelperCalls, HelperFault};
 use bpf_interp::machine::Machine;
-use bpf_interp::ports::{PortFault, Ports};
 use bpf_interp::regions::Regions;
 use bt_core::items::Items;
 use bt_core::limits::CODE_SLOTS;
@@ -14,7 +14,7 @@ use std::test::Fail;
 #[derive(Drop)]
 struct Done;
 
-impl Ports for Done {
+impl HelperCalls for Done {
     ghost use Rattle.std.specs.Prelude.{[]};
     ghost use Rattle.bt_core.specs.Interaction.{Ended};
     ghost use Rattle.bpf_insn.specs.Machine.{Gave};
@@ -34,7 +34,7 @@ impl Ports for Done {
         _number: u32,
         _args: [u64; 5],
         _memory: &mut Regions,
-    ) -> Result<u64, PortFault> {
+    ) -> Result<u64, HelperFault> {
         Ok(0)
     }
 }
