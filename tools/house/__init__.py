@@ -1,0 +1,1 @@
+"""How the repository is laid out, for the tests that hold it."""
