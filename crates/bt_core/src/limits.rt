@@ -1,5 +1,7 @@
 // The limits of the profile, each one the greatest that is accepted or kept, and the number of parts of a
 // shared map.
+ghost use Rattle.std.specs.Prelude.{◌≡◌};
+ghost use Rattle.bt_core.specs.declared.limits.TheConstants.{BODIES, CODE_SLOTS, CPUS, EVENTS, FORMATS, FRAME_BYTES, FUEL_OF_A_SLOT, KEYS, KEY_PARTS, LAYOUT_END, LHIST_BUCKETS, LOOP_TURNS, MAPS, NESTING, PARTS, PROBES, RECORDING_BYTES, SCRIPT_BYTES, STRING_BYTES, STRING_TOKEN_BYTES, TICKS};
 
 /// Bytes of a script.
 pub const SCRIPT_BYTES: u64 = 65_536;
@@ -63,3 +65,28 @@ pub const FUEL_OF_A_SLOT: u64 = 4_098;
 
 /// Parts of each shared map, numbered from 0.
 pub const PARTS: u32 = 8;
+
+/// Each limit is the number that a reader of the language's limits knows. Nothing runs.
+pub fn limits_are()
+    ensures script_bytes { SCRIPT_BYTES ≡ 65536 }
+    ensures recording_bytes { RECORDING_BYTES ≡ 268435456 }
+    ensures cpus { CPUS ≡ 64 }
+    ensures formats { FORMATS ≡ 4096 }
+    ensures events { EVENTS ≡ 1048576 }
+    ensures layout_end { LAYOUT_END ≡ 4096 }
+    ensures probes { PROBES ≡ 64 }
+    ensures nesting { NESTING ≡ 64 }
+    ensures bodies { BODIES ≡ 4096 }
+    ensures ticks { TICKS ≡ 100000 }
+    ensures maps { MAPS ≡ 32 }
+    ensures key_parts { KEY_PARTS ≡ 4 }
+    ensures string_bytes { STRING_BYTES ≡ 63 }
+    ensures string_token_bytes { STRING_TOKEN_BYTES ≡ 1024 }
+    ensures keys { KEYS ≡ 4096 }
+    ensures loop_turns { LOOP_TURNS ≡ 4096 }
+    ensures lhist_buckets { LHIST_BUCKETS ≡ 1000 }
+    ensures frame_bytes { FRAME_BYTES ≡ 512 }
+    ensures code_slots { CODE_SLOTS ≡ 4096 }
+    ensures fuel_of_a_slot { FUEL_OF_A_SLOT ≡ 4098 }
+    ensures parts { PARTS ≡ 8 }
+{}

@@ -13,3 +13,4 @@ pub mod Weights
 pub mod Refusals
 pub mod Counts
 pub mod Mentions
+pub mod Vocabulary

@@ -7,6 +7,8 @@ ghost use Rattle.bt_grammar.specs.Form.{Item};
 ghost use Rattle.bt_grammar.specs.Grammar.{Begins, IsTreeOf};
 ghost use Rattle.bt_grammar.specs.Mentions.{IsPartOf, formats_of, maps_of, token_maps, token_texts};
 ghost use Rattle.bt_grammar.specs.Refusals.{IsAccepted, IsRefusal};
+ghost use Rattle.bt_grammar.specs.Vocabulary.{punctuation, vocabulary};
+ghost use Rattle.bt_grammar.specs.Words.{marks, words};
 
 /// A list of tokens has at most one tree and at most one first fault, and not both, and a list that is a script begins one.
 pub fn one_answer()
@@ -32,4 +34,10 @@ pub fn mentions_in_order()
     ensures maps { (tokens : List Item) (script : Script) → IsTreeOf tokens script → maps_of script ≡ token_maps tokens }
     ensures formats { (tokens : List Item) (script : Script) → IsTreeOf tokens script → IsPartOf (formats_of script) (token_texts tokens) }
     ensures few { (tokens : List Item) (script : Script) → IsTreeOf tokens script → length (formats_of script) ≤ length tokens }
+{}
+
+/// The words and the marks that the grammar names are those of the language, each with its class.
+pub fn words_are()
+    ensures words { words ≡ vocabulary }
+    ensures marks { marks ≡ punctuation }
 {}

@@ -1,6 +1,7 @@
 // What takes bytes.
-ghost use Rattle.std.specs.Prelude.{◌<◌, ◌≤◌, ℕ, List, Option, None, length, IfOk, OnErr, OnOk};
+ghost use Rattle.std.specs.Prelude.{◌≡◌, ◌<◌, ◌≤◌, ℕ, List, Option, None, length, IfOk, OnErr, OnOk};
 ghost use Rattle.std.specs.Io.KnownBytes.{Appends, WriteAppends};
+ghost use Rattle.bt_io.specs.declared.sink.TheConstants.{PIECE};
 ghost use Rattle.bt_io.specs.Faults.{Rose};
 ghost use Rattle.bt_io.specs.Offers.{OffersAllLeft, TellsOffer};
 ghost use Rattle.bt_io.specs.Taken.{AppendsPart};
@@ -14,6 +15,11 @@ pub struct SinkFailed;
 
 /// The most bytes that [`write_all`] offers in one call.
 pub const PIECE: usize = 4096;
+
+/// A call offers 4,096 bytes at most. Nothing runs.
+pub fn pieces_are()
+    ensures { PIECE ≡ 4096 }
+{}
 
 /// What takes bytes.
 pub trait Sink {
