@@ -11,7 +11,7 @@ from house.crate_map import read_map  # noqa: E402
 
 WIDEST = 120
 LINK = re.compile(r"\[[^\]]*\]\(([^)#\s]+)(#[^)]*)?\)")
-SLIM = ("ARCHITECTURE.md", "DECISIONS.md", "PROVED.md")
+SLIM = ("ARCHITECTURE.md", "CONTRIBUTING.md", "DECISIONS.md", "GATE.md", "PROVED.md")
 FUNCTION = re.compile(r"`([a-z_]+)((?:::[a-z_0-9]+)+)`")
 
 
