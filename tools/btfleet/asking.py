@@ -2,14 +2,16 @@
 in its own copy of btfleet, so what is sent to it are the script, names and paths. A worker finds this module with the
 folder of btfleet on its path, so nothing of btrecord's is imported here, some of whose modules have the same names.
 """
+import importlib.util
 import os
 import socket
 import subprocess
 import threading
 
+from btfleet.faults import NONE_IN
 from btreplay import proved, unproved
 from btreplay.compiled import NotBuilt
-from btreplay.places import is_checkout
+from btreplay.places import TOOLS, is_checkout
 
 # The runs of this process that have not ended.
 running = set()
@@ -42,6 +44,14 @@ def program_here():
     return proved.program()
 
 
+def what_it_is(path):
+    """Lines that say what stands in the place of the recording at a path, where that is known."""
+    spec = importlib.util.spec_from_file_location("unread", TOOLS / "btrecord" / "unread.py")
+    unread = importlib.util.module_from_spec(spec)
+    spec.loader.exec_module(unread)
+    return "".join(f"{line}\n" for line in unread.in_place_of_recording(path, unread.begin_of(path))).encode(errors="surrogateescape")
+
+
 def answer_by(program, script, path):
     """Runs a program over a recording, and gives its status, what it printed, and what it told, with `-` as the
     script's name."""
@@ -59,7 +69,8 @@ def answer_by(program, script, path):
         finally:
             with lock:
                 running.discard(child)
-    return child.returncode, printed, told.replace(f"{name}:".encode(), b"-:")
+    told = told.replace(f"{name}:".encode(), b"-:")
+    return child.returncode, printed, told + what_it_is(path) if child.returncode == NONE_IN else told
 
 
 def end_all():

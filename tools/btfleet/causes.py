@@ -18,7 +18,7 @@ def signal_name(number):
 def cause_of(status, told, path, shown):
     """The cause in words. The script is called as the words have it, and the recording's own name is left out."""
     text = told.decode(errors="backslashreplace").strip()
-    first = text.split("\n")[0]
+    first, *more = text.split("\n")
     if status is None:
         return text
     if status < 0:
@@ -26,7 +26,7 @@ def cause_of(status, told, path, shown):
     if status == WORDS and first.startswith("usage: "):
         return "the program there does not know run --json: it is an older one"
     if first.startswith(f"{path}: "):
-        return first[len(path) + 2:]
+        return "; ".join([first[len(path) + 2:], *more])
     found = REFUSAL.fullmatch(first)
     if found:
         return f"{shown}:{found[1]}: {found[2]}" if found[1] else f"{shown}: {found[2]}"

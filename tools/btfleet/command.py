@@ -2,12 +2,13 @@
 import contextlib
 import os
 import signal
+import socket
 import sys
 
 from btfleet.engine import connected, imported
 from btfleet.faults import ENGINE, MEMORY, READ, SCRIPT, WORDS, WRITE, Refused
 from btfleet.fleet import Fleet
-from btfleet.operands import operands
+from btfleet.operands import EACH, operands
 from btfleet.placing import placed, placed_here, survey
 from btfleet.plan import Fault, plan_of, told_fault
 from btfleet.printing import printed
@@ -19,6 +20,8 @@ from btreplay.compiled import NotBuilt
 from btreplay.refusal import pointed, why_unread
 from btreplay.running import end_in_order, hold_streams
 from btreplay.tokens import place_of, text_of
+from inputs import STANDARD, overwritten
+from unread import in_place_of_script
 
 MOST_SCRIPT = 65_536
 
@@ -45,6 +48,8 @@ def script_of(word):
     except OSError as error:
         why = "standard input could not be read" if word == "-" else why_unread(word)
         raise Refused(f"{word}: {why}", READ) from error
+    for line in in_place_of_script(word, script):
+        raise Refused(line, SCRIPT)
     if len(script) > MOST_SCRIPT:
         raise Refused(f"{word}: script too long", SCRIPT)
     return script, "standard input" if word == "-" else word
@@ -113,11 +118,21 @@ def write(pieces):
     return 0
 
 
+def keep_inputs(asked, named):
+    """Refuses a standard output that is the script or a recording of this machine, which would be written over."""
+    here = [operand.path for operand in named if not asked.scheduler or operand.host in ("", EACH, socket.gethostname())]
+    fault = overwritten(STANDARD, [asked.script, *here])
+    if fault:
+        raise Refused(fault, WORDS)
+
+
 def run(asked):
     """Asks a script of recordings, and prints what they answer together. It gives the status."""
+    named = operands(asked.recordings, bool(asked.scheduler))
+    keep_inputs(asked, named)
     script, shown = script_of(asked.script)
     plan = plan_or_refused(script, shown)
-    result = ask(asked, plan, operands(asked.recordings, bool(asked.scheduler)), shown)
+    result = ask(asked, plan, named, shown)
     if result.is_refused():
         tell_alone(sorted(set(result.causes.values())))
     status = write(printed(result.merged, asked.json))

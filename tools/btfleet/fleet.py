@@ -12,6 +12,7 @@ from concurrent.futures import CancelledError
 from btfleet import asking
 from btfleet.faults import ENGINE, Refused
 from btfleet.placing import NOT_THERE, PRELOAD, survey
+from btreplay.refusal import why_unread
 
 TURN_SECONDS = 0.2
 LOOK_SECONDS = 1
@@ -57,7 +58,8 @@ class Fleet:
             if asked.holders:
                 self.submit(asked)
             else:
-                yield asked, Unasked(NOT_THERE)
+                # The program is named where all is asked on this machine.
+                yield asked, Unasked(why_unread(asked.path) if self.how[1] else NOT_THERE)
         while self.open:
             if time.monotonic() >= self.next_look:
                 yield from self.look()

@@ -12,6 +12,7 @@ record, convert and cut also take --v1, for a recording without marks of lost ev
 This program is not proved. btreplay checks each recording that it is given.
 """
 import contextlib
+import glob
 import importlib.util
 import os
 import signal
@@ -29,10 +30,12 @@ if not sys.dont_write_bytecode:
 
 import selection  # noqa: E402
 import tracedat  # noqa: E402
+from container import VERSIONS  # noqa: E402
 from cutting import cut  # noqa: E402
 from dumping import dump, lines  # noqa: E402
-from faults import MEMORY, WRITE, Ended, Refused  # noqa: E402
+from faults import MEMORY, RECORDING, WORDS, WRITE, Ended, Refused  # noqa: E402
 from info import info, listing  # noqa: E402
+from inputs import STANDARD, overwritten  # noqa: E402
 from output import Output  # noqa: E402
 from perfdata import convert, mapped  # noqa: E402
 from record import Asked, record  # noqa: E402
@@ -67,8 +70,18 @@ def tell(lines):
         print(f"btrecord: {line}", file=sys.stderr)
 
 
+def read_of(asked):
+    """The files that the words have read."""
+    formats = glob.glob(os.path.join(glob.escape(asked.formats), "*", "*", "format")) if getattr(asked, "formats", None) else []
+    named = [getattr(asked, word) for word in ("recording", "data") if hasattr(asked, word)]
+    return named + list(getattr(asked, "scripts", [])) + formats
+
+
 def run(asked):
     """Does what the words ask, and answers the status."""
+    fault = overwritten(getattr(asked, "output", None) or STANDARD, read_of(asked))
+    if fault:
+        raise Refused(fault, WORDS)
     if asked.command in ("record", "convert"):
         return run_making(asked)
     if asked.command == "cut":
@@ -113,6 +126,8 @@ def run_making(asked):
                             filters=asked.filters, keeps_latest=asked.keep == "latest", with_marks=not asked.v1, tell=tell), lambda: Output(asked.output))
     else:
         data = mapped(asked.data)
+        if data[:len(next(iter(VERSIONS)))] in VERSIONS:
+            raise Refused(f"{asked.data} is a recording already", RECORDING)
         if data[:len(tracedat.MAGIC)] == tracedat.MAGIC:
             made = tracedat.convert_trace(data, asked.data, lambda: Output(asked.output), not asked.v1)
         else:

@@ -2,6 +2,7 @@
 
 README.md and docs/btrecord.1 have the table of statuses.
 """
+from unread import why_unread
 
 WORDS = 1
 REFUSED = 2
@@ -28,5 +29,5 @@ class Ended(Exception):
 
 
 def of_file(path, error, status):
-    """A fault of the system with a file."""
-    return Refused(f"{path}: {error.strerror or error}", status)
+    """A fault of the system with a file; why one cannot be read is told as by all tools."""
+    return Refused(f"{path}: {why_unread(path) if status == READ else error.strerror or error}", status)

@@ -15,6 +15,7 @@ import container
 from container import CPU, EVENT, EVENT_KIND, HEADER, MARK, MARK_KIND, SYSTEM, VERSIONS, Format
 from faults import READ, RECORDING, Refused, of_file
 from format_text import BadFormat, layout_of
+from unread import MOST_LOOKED_AT, in_place_of_recording
 
 
 class BadRecording(Exception):
@@ -228,7 +229,8 @@ def opened(path, take=lambda *event: None):
     try:
         return data, read_recording(data, take)
     except BadRecording as fault:
-        raise Refused(f"{path}: {fault}", RECORDING) from fault
+        lines = [f"{path}: {fault}"] + in_place_of_recording(path, bytes(data[:MOST_LOOKED_AT]))
+        raise Refused("\n".join(lines), RECORDING) from fault
 
 
 def entries_of(data, contents, place):

@@ -2,6 +2,7 @@
 import re
 
 from faults import READ, WORDS, Refused, of_file
+from unread import in_place_of_script
 
 # Strings and comments are passed over: no probe begins in one.
 PASSED = re.compile(r'"(?:\\.|[^"\\\n])*"|//[^\n]*|/\*.*?\*/', re.DOTALL)
@@ -27,6 +28,8 @@ def points_in(path):
             text = file.read(MOST_BYTES + 1)
     except OSError as error:
         raise of_file(path, error, READ) from error
+    for line in in_place_of_script(path, text):
+        raise Refused(line, WORDS)
     if len(text) > MOST_BYTES:
         raise Refused(f"{path}: script too long", WORDS)
     found = points(text.decode("latin-1"))

@@ -193,6 +193,14 @@ def after_refusal_files(ended, asked):
     return lines or about_recording(ended.status, asked.recording)
 
 
+def keep_inputs(asked):
+    """Refuses a standard output that is a file that is read, which would be written over."""
+    from btreplay.refusal import overwritten
+    fault = overwritten("-", [path for path in (asked.script, asked.recording, asked.account) if path])
+    if fault:
+        raise BadWords(fault)
+
+
 def answer(words):
     """Does what words ask for, and gives the status."""
     is_unproved = words[:1] == ["--unproved"]
@@ -205,6 +213,7 @@ def answer(words):
         return 0
     asked = asked_of(words)
     asked.is_unproved = is_unproved
+    keep_inputs(asked)
     does = explain if asked.command == "explain" else run_asked
     if not is_unproved:
         return does(proved.program(), asked)

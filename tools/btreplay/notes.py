@@ -14,12 +14,14 @@ UNITS = {"s": 1_000_000_000, "ms": 1_000_000, "us": 1_000}
 
 def about_order(probes, head):
     """One line where what the script prints depends on the order of CPUs: none for a recording of one CPU."""
-    reasons = reasons_of(probes) if head is None or head.cpus > 1 else []
-    if head and head.cpus > 1 and head.version == 2:
-        reasons = reasons + ["lost events are told as each CPU comes to them"]
-    if not reasons:
+    if head is not None and head.cpus == 1:
         return []
-    return [f"{', and '.join(reasons)}, so the answer depends on the order of CPUs; run --serial takes all events by their times"]
+    reasons = reasons_of(probes)
+    if reasons:
+        return [f"{', and '.join(reasons)}, so the answer depends on the order of CPUs; run --serial takes all events by their times"]
+    if head and head.version == 2:
+        return ["the answer is the same in every order of CPUs; the lines of lost events alone come as each CPU gets to them, with run --serial by their times"]
+    return []
 
 
 def never_set(probes, text):

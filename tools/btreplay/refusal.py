@@ -6,6 +6,8 @@ from dataclasses import dataclass
 
 from btreplay.recorded import begins_a_recording
 from btreplay.tokens import offset_of
+from inputs import overwritten  # noqa: F401  (the command has it from here)
+from unread import begin_of, in_place_of_recording, why_unread
 
 SCRIPT, RECORDING, READ, WRITE = 2, 3, 4, 5
 # The commands, each with its options and what it takes.
@@ -13,9 +15,6 @@ FILES, NUMBERS, THREE = "a script and a recording", "two numbers, as in 7 1000",
 COMMANDS = {"run": ("--serial --stats --json", FILES), "check": ("", FILES), "explain": ("", FILES), "code": ("", FILES), "vet": ("", FILES),
             "account": ("--serial", FILES), "verify": ("", THREE), "gen": ("", NUMBERS), "big": ("", NUMBERS)}
 MOST_SCRIPT = 65_536
-# How files of other programs begin.
-CONVERTED = {b"\x17\x08\x44tracing": "trace-cmd", b"PERFILE2": "perf"}
-PACKED = {b"\x1f\x8b": "gzip", b"\x28\xb5\x2f\xfd": "zstd", b"\xfd7zXZ\0": "xz"}
 WIDTH = 120
 
 
@@ -60,25 +59,6 @@ def pointed(text, line, column):
     return ["  " + (before + behind).rstrip(), "  " + " " * len(before) + "^"]
 
 
-def why_unread(path):
-    """Why a file cannot be read, in words."""
-    try:
-        found = os.stat(path)
-        if stat.S_ISDIR(found.st_mode):
-            return "it is a folder"
-        if stat.S_ISREG(found.st_mode):
-            with open(path, "rb") as file:
-                file.read(1)
-        return "the system could not read it"
-    except FileNotFoundError:
-        folder = os.path.dirname(path) or "."
-        return "there is no such file" if os.path.isdir(folder) else f"there is no folder {folder}"
-    except PermissionError:
-        return "there is no permission to read it"
-    except (OSError, ValueError) as error:
-        return getattr(error, "strerror", None) or "no file has such a name"
-
-
 def about_files(status, told, script, recording, account=None):
     """Lines for files that were not read, and for operands in the other order."""
     if status == READ:
@@ -90,12 +70,8 @@ def about_files(status, told, script, recording, account=None):
 
 
 def about_recording(status, recording):
-    """A line for a file of another program in the place of a recording."""
-    begin = text_of_file(recording, 16) if status == RECORDING else None
-    if begin is None:
-        return []
-    lines = [f"{recording} is a file of {name}: btrecord convert {recording} -o my.btr makes a recording of it" for magic, name in CONVERTED.items() if begin.startswith(magic)]
-    return lines + [f"{recording} is compressed by {name}: unpack it first" for magic, name in PACKED.items() if begin.startswith(magic)]
+    """A line for a file that stands in the place of a recording, where it is known what it is."""
+    return in_place_of_recording(recording, begin_of(recording)) if status == RECORDING else []
 
 
 def listed(words):

@@ -20,6 +20,7 @@ from btreport.panel import Panel
 from btreport.questions import Question, Recorded, details, first_questions
 from btreport.running import Program, path_of
 from btreport.words import parsed
+from inputs import overwritten
 
 # What is not asked where a recording lacks tracepoints, and those that it takes.
 LACKING = {
@@ -30,23 +31,31 @@ LACKING = {
 }
 
 
-def tell(line):
-    """Tells a line."""
+def tell(text):
+    """Tells a text, line by line."""
     with contextlib.suppress(OSError):
-        print(f"btreport: {line}", file=sys.stderr)
+        sys.stderr.write("".join(f"btreport: {line}\n" for line in text.split("\n")))
 
 
-def questions_of(folder):
-    """The scripts of a folder, by their names."""
+def scripts_of(folder):
+    """The paths of the scripts of a folder, by their names; none where there is no folder."""
+    if folder is None:
+        return []
     try:
         names = sorted(name for name in os.listdir(folder) if name.endswith(".bt"))
+    except NotADirectoryError as error:
+        raise Refused(f"{folder}: this is no folder", READ) from error
     except OSError as error:
         raise of_file(folder, error, READ) from error
     if not names:
         raise Refused(f"{folder}: there is no script *.bt in this folder", WORDS)
+    return [os.path.join(folder, name) for name in names]
+
+
+def questions_of(folder):
+    """The scripts of a folder, with their texts."""
     found = []
-    for name in names:
-        path = os.path.join(folder, name)
+    for path in scripts_of(folder):
         try:
             with open(path, "rb") as file:
                 found.append(Question(path, os.fsdecode(file.read())))
@@ -125,7 +134,7 @@ def command_to_cut(recording):
 def report(program, path, scripts, version, is_proved):
     """The page, as bytes."""
     recorded = recorded_of(program, path)
-    asked, own = ask(program, recorded, questions_of(scripts) if scripts is not None else [])
+    asked, own = ask(program, recorded, questions_of(scripts))
     if asked["time_line"].answer is None:
         raise Refused(asked["time_line"].refusal, PROGRAM)
     line = time_line.time_line_of(asked["time_line"].answer)
@@ -159,6 +168,9 @@ def run(words):
     """Does what the words ask."""
     asked = parsed(words)
     output = asked.output if asked.output is not None else at_default(asked.recording)
+    fault = overwritten(output, [asked.recording] + scripts_of(asked.scripts))
+    if fault:
+        raise Refused(fault, WORDS)
     with written(output) as write, program_of(asked.unproved) as (path, version):
         write(report(Program(path, asked.recording), asked.recording, asked.scripts, version, not asked.unproved))
     if asked.output != "-":

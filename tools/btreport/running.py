@@ -6,8 +6,9 @@ import subprocess
 from dataclasses import dataclass
 
 from btreplay.command import handle_of
+from btreplay.refusal import about_recording, why_unread
 from btreport.answers import NotOfTheProgram, answer_of
-from btreport.faults import MEMORY, PROGRAM, Refused
+from btreport.faults import MEMORY, PROGRAM, READ, Refused
 
 SCRIPT_REFUSED = 2
 # A run takes some hundred megabytes for the largest recordings.
@@ -86,7 +87,9 @@ class Program:
         lines = told.splitlines() or [f"the program ended with status {status}"]
         if lines[0].startswith("usage: "):
             return Refused("the program that is here has no option --json: it is older than this command", PROGRAM)
-        return Refused(lines[0], status)
+        if status == READ:
+            return Refused(f"{self.recording}: {why_unread(self.recording)}", READ)
+        return Refused("\n".join(lines[:1] + about_recording(status, self.recording)), status)
 
     def ask(self, question):
         """Runs a script."""

@@ -188,6 +188,7 @@ class Answers(unittest.TestCase):
         for status, told, wanted in ((3, b"/r.btr: C1 truncated at byte 9\n", "C1 truncated at byte 9"),
                                      (2, b"-:1:7: A1 unknown tracepoint\n", "s.bt:1:7: A1 unknown tracepoint"),
                                      (2, b"-: script too long\n", "s.bt: script too long"), (4, b"/r.btr: read fault\n", "read fault"),
+                                     (3, b"/r.btr: C2 bad magic\n/r.btr is a file of perf: ..\n", "C2 bad magic; /r.btr is a file of perf: .."),
                                      (6, b"out of memory\n", "out of memory"), (1, b"usage: btreplay run ..\n", older),
                                      (-9, b"", "its run was ended by SIGKILL"), (77, b"", "its run ended with status 77"),
                                      (None, b"no program", "no program")):

@@ -98,6 +98,29 @@ class Cut(WithProgram):
         self.assertEqual(second, self.installed.run("run", script, parts[2], parts[0])[1].decode().splitlines()[:-1])
         self.assertEqual(len(first) + len(second) + 1, len(lines))
 
+    def test_what_stands_in_the_place_of_a_recording(self):
+        script, output = self.example("who_calls")
+        data, other = self.installed.write("p.data", b"PERFILE2" + bytes(100)), self.installed.write("o.bt", "BEGIN { }")
+        none = str(self.installed.folder / "none.btr")
+        told = "".join(f"btfleet: {line}\n" for line in (
+            f"{data}: C2 bad magic; {data} is a file of perf: btrecord convert {data} -o my.btr makes a recording of it",
+            f"{other}: C1 truncated at byte 9; {other} is a script, and a recording belongs here: btrecord record --for {other} -o my.btr records what it names",
+            f"{none}: there is no such file", "the result has 1 of 4 recordings"))
+        self.assertEqual(self.installed.run("run", script, SMALL, data, other, none), (7, output, told))
+        self.assertEqual(self.installed.run("run", SMALL, SMALL), (2, b"", f"btfleet: {SMALL} is a recording, and a script belongs here\n"))
+
+    def test_an_output_that_is_an_input(self):
+        script, _ = self.example("who_calls")
+        own = self.installed.write("own.bt", open(script, "rb").read())
+        part = self.installed.write("part.btr", open(SMALL, "rb").read())
+        for name in (own, part):
+            before = open(name, "rb").read()
+            with open(name, "ab") as file:
+                done = subprocess.run(self.installed.words(["run", own, part]), stdin=subprocess.DEVNULL, stdout=file, stderr=subprocess.PIPE, timeout=100)
+            told = f"btfleet: standard output is {name}, which is read, and would be written over: name another file\n"
+            self.assertEqual((done.returncode, done.stderr.decode()), (1, told))
+            self.assertEqual(open(name, "rb").read(), before)
+
     def test_a_damaged_recording_and_a_refused_script(self):
         script, output = self.example("who_calls")
         with open(SMALL, "rb") as file:

@@ -294,7 +294,7 @@ class Scripts(unittest.TestCase):
 
     def test_words(self):
         with tempfile.TemporaryDirectory() as folder:
-            for name, text, status, told in [("none.bt", None, READ, "none.bt: No such file or directory"), ("no.bt", "BEGIN {}", WORDS, "names no tracepoints"),
+            for name, text, status, told in [("none.bt", None, READ, "none.bt: there is no such file"), ("no.bt", "BEGIN {}", WORDS, "names no tracepoints"),
                                              ("long.bt", " " * 65_537, WORDS, "script too long")]:
                 if text is not None:
                     pathlib.Path(folder, name).write_text(text)

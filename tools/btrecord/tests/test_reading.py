@@ -194,7 +194,7 @@ tracepoint:demo:tock
         with unittest.mock.patch("container.MOST_BYTES", 99):
             self.assertEqual(self.told("info", self.path), (RECORDING, "", f"btrecord: {self.path}: recording too long\n"))
         os.unlink(self.path)
-        self.assertEqual(self.told("info", self.path), (READ, "", f"btrecord: {self.path}: No such file or directory\n"))
+        self.assertEqual(self.told("info", self.path), (READ, "", f"btrecord: {self.path}: there is no such file\n"))
 
 
 if __name__ == "__main__":

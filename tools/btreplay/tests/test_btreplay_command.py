@@ -117,6 +117,24 @@ class Command(unittest.TestCase):
         self.assertEqual(self.at.run("check", "r.btr", "s.bt", status=2, err="r.btr: script too long"), (2, "", "r.btr: script too long\n" + told))
         self.assertEqual(self.at.run("check", "r.btr", "r.btr", status=2, err="r.btr:1:1: P1 syntax"), (2, "", "r.btr:1:1: P1 syntax\n"))
 
+    def test_a_script_in_the_place_of_a_recording(self):
+        told = "is a script, and a recording belongs here: btrecord record --for o.bt -o my.btr records what it names"
+        self.at.write("o.bt", "BEGIN { }")
+        self.assertEqual(self.at.run("run", "s.bt", "o.bt", status=3, err="o.bt: C1 truncated at byte 9"),
+                         (3, "", f"o.bt: C1 truncated at byte 9\nbtreplay: o.bt {told}\n"))
+
+    def test_an_output_that_is_an_input(self):
+        """Nothing is run, and nothing is written behind what is read."""
+        for words in (["run", "s.bt", "r.btr"], ["account", "s.bt", "r.btr"], ["explain", "s.bt", "r.btr"], ["verify", "s.bt", "r.btr", "r.btr"]):
+            for name in ("s.bt", "r.btr"):
+                before = (self.at.folder / name).read_bytes()
+                with open(self.at.folder / name, "ab") as file:
+                    done = subprocess.run([str(self.at.top / "btreplay"), *words], cwd=self.at.folder, env=self.at.environment(out="text"),
+                                          stdin=subprocess.DEVNULL, stdout=file, stderr=subprocess.PIPE, timeout=60)
+                told = f"btreplay: standard output is {name}, which is read, and would be written over: name another file\n"
+                self.assertEqual((done.returncode, done.stderr.decode()), (1, told))
+                self.assertEqual((self.at.folder / name).read_bytes(), before)
+
     def test_a_file_of_another_program(self):
         for begin, told in ((b"\x17\x08\x44tracing6", "is a file of trace-cmd: btrecord convert o.dat -o my.btr makes a recording of it"),
                             (b"PERFILE2", "is a file of perf: btrecord convert o.dat -o my.btr makes a recording of it"),

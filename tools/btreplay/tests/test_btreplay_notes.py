@@ -56,7 +56,8 @@ class Notes(unittest.TestCase):
         formats = [("a", format_text("seen", 7))]
         for cpus, is_marked, told in [(2, True, True), (1, True, False), (2, False, False)]:
             content = recording(formats, [[(5, 7)]] * cpus, is_marked=is_marked)
-            note = "lost events are told as each CPU comes to them, so the answer depends on the order of CPUs; run --serial takes all events by their times"
+            note = ("the answer is the same in every order of CPUs; the lines of lost events alone come as each CPU gets to them, "
+                    "with run --serial by their times")
             self.assertEqual(self.notes("t:a:seen { @ = count(); }", content, is_ordered=False), [note] if told else [])
             self.assertEqual(self.notes("t:a:seen { @ = count(); }", content), [])
 

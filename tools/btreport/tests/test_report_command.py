@@ -104,6 +104,36 @@ class Command(unittest.TestCase):
             page.one("section", id="foot").text(),
         )
 
+    def test_a_page_in_the_place_of_what_is_read(self):
+        """Neither over the recording nor over a script, by whatever name, and before anything is asked."""
+        (self.home / "own").mkdir()
+        (self.home / "own" / "mine.bt").write_text("BEGIN { }")
+        (self.home / "link.html").symlink_to("small.btr")
+        os.link(self.home / "small.btr", self.home / "hard.html")
+        before = (self.home / "small.btr").read_bytes()
+        behind = "and would be written over: name another file by -o"
+        for words, told in (
+            (["-o", "small.btr"], f"small.btr is read, {behind}"),
+            (["-o", "link.html"], f"link.html is the same file as small.btr, which is read, {behind}"),
+            (["-o", "hard.html"], f"hard.html is the same file as small.btr, which is read, {behind}"),
+            (["--scripts", "own", "-o", "own/mine.bt"], f"own/mine.bt is read, {behind}"),
+        ):
+            self.assertEqual(self.run_report("small.btr", *words), (1, b"", f"btreport: {told}\n"))
+        self.assertEqual(self.asked(), [])
+        self.assertEqual((self.home / "small.btr").read_bytes(), before)
+        self.assertEqual((self.home / "own" / "mine.bt").read_text(), "BEGIN { }")
+
+    def test_files_in_the_place_of_a_recording(self):
+        for content, told in (
+            (b"PERFILE2", "is a file of perf: btrecord convert o.btr -o my.btr makes a recording of it"),
+            (b"BEGIN { }", "is a script, and a recording belongs here: btrecord record --for o.btr -o my.btr records what it names"),
+        ):
+            (self.home / "o.btr").write_bytes(content)
+            answers = {"check": {"status": 3, "err": "o.btr: C2 bad magic\n"}}
+            self.assertEqual(self.run_report("o.btr", known=answers), (3, b"", f"btreport: o.btr: C2 bad magic\nbtreport: o.btr {told}\n"))
+        answers = {"check": {"status": 4, "err": "none.btr: read fault\n"}}
+        self.assertEqual(self.run_report("none.btr", known=answers), (4, b"", "btreport: none.btr: there is no such file\n"))
+
     def test_where_the_page_goes(self):
         """What is there already stays, unless it is named."""
         (self.home / "small.html").write_text("of the user")
@@ -125,7 +155,7 @@ class Command(unittest.TestCase):
         text = self.questions[0].text
         for answers, wanted, told in (
             ({"check": {"status": 3, "err": "small.btr: C2 bad magic\n"}}, 3, "btreport: small.btr: C2 bad magic\n"),
-            ({"check": {"status": 4, "err": "small.btr: read fault\n"}}, 4, "btreport: small.btr: read fault\n"),
+            ({"check": {"status": 4, "err": "small.btr: read fault\n"}}, 4, "btreport: small.btr: the system could not read it\n"),
             ({text: {"status": 6, "err": "out of memory\n"}}, 6, "btreport: out of memory\n"),
             ({text: {"signal": int(signal.SIGKILL)}}, 1, "btreport: the program was ended by signal 9\n"),
             (
@@ -148,7 +178,7 @@ class Command(unittest.TestCase):
         self.assertEqual(status, 1)
         self.assertIn("btreport: the following arguments are required: RECORDING", told)
         status, _, told = self.run_report("small.btr", "--scripts", "none")
-        self.assertEqual((status, told), (4, "btreport: none: No such file or directory\n"))
+        self.assertEqual((status, told), (4, "btreport: none: there is no such file\n"))
         (self.home / "empty").mkdir()
         self.assertEqual(
             self.run_report("small.btr", "--scripts", "empty")[2],
