@@ -172,6 +172,7 @@ def explain(program, asked):
     """Checks a script, and writes what there is to say behind what the program tells."""
     if asked.script is None:
         raise BadWords("explain takes a script and a recording")
+    from btreplay.checking import Checks
     from btreplay.explain import explanation
     asked.words[0] = "check"
     ended, output = run_program(program, asked.words, output=subprocess.PIPE)
@@ -179,8 +180,9 @@ def explain(program, asked):
     sys.stdout.buffer.write(output)
     sys.stdout.flush()
     pass_on(ended.told)
-    for line in explanation(ended, script_text(asked), (asked.script, asked.shown), asked.recording):
-        print(line)
+    with Checks(program, asked.recording) as checks:
+        for line in explanation(ended, script_text(asked), (asked.script, asked.shown), asked.recording, checks):
+            print(line)
     sys.stdout.flush()
     tell(after_refusal_files(ended, asked))
     return end_as(ended.status)

@@ -1,16 +1,17 @@
-"""`explain SCRIPT RECORDING`: what a refusal means and how it is mended, and of a script that is accepted what is worth knowing of it."""
+"""`explain SCRIPT RECORDING`: what a refusal means and how it is mended, what else is refused behind it, and of a script that is accepted what is
+worth knowing of it."""
 import difflib
 
-from btreplay.hints import at_refusal
+from btreplay.further import faults_of
+from btreplay.hints import at_refusal, is_known
 from btreplay.meanings import meaning_of
 from btreplay.notes import notes_of
-from btreplay.recorded import head_of_file, matcher
+from btreplay.recorded import SEEN, formats_of, head_of_file
 from btreplay.refusal import pointed, refusal_in
 from btreplay.script import probes_of
-from btreplay.tokens import offset_of, tokens_of
+from btreplay.tokens import NUMBER, POINT, offset_of, place_of, tokens_of
 
 MOST_FIELDS = 40
-SEEN = {"number": "number", "characters": "string", "dynamic characters": "string"}
 
 
 def word_at(text, at):
@@ -38,17 +39,10 @@ def listed(names, most):
     return ", ".join(names[:most]) + (f" and {len(names) - most} more" if len(names) > most else "")
 
 
-def formats_at(text, at, head):
-    """The formats that the points of the probe at an offset fit."""
-    found = [probe for probe in probes_of(text) if probe.tokens and probe.tokens[0].at <= at]
-    points = [point for point, _ in found[-1].points if point[0] == "t" and ":" in point] if found else []
-    return [format for format in head.formats if any(matcher(point)(format) for point in points)]
-
-
 def about_fields(text, at, head):
     """The fields of the first event of the probe that lacks a field, or has it in a form that cannot be read."""
     name = word_at(text, at)
-    for format in formats_at(text, at, head):
+    for format in formats_of(text, at, head):
         fields = {field.name.decode(): field for field in format.layout.fields if field.name}
         if name in fields and fields[name].kind in SEEN:
             continue
@@ -69,7 +63,7 @@ def explained(refusal, text, recording):
         lines += pointed(text, refusal.line, refusal.column)
     meaning = meaning_of(refusal.code, refusal.text)
     head = head_of_file(recording)
-    hints = at_refusal(text, at) if at is not None and refusal.code in ("X1", "P1") else []
+    hints = at_refusal(text, at, head) if at is not None and refusal.code in ("X1", "P1") else []
     # What is known of the very word stands in the place of what is said of all.
     lines += meaning[:1] + [f"Here: {hint}" for hint in hints] if hints else meaning
     if at is not None and head and refusal.code in ("A1", "A2"):
@@ -79,10 +73,28 @@ def explained(refusal, text, recording):
     return lines
 
 
-def explanation(ended, text, names, recording):
-    """All lines for a script's check: of a refusal by its name, or of an accepted script the notes on it."""
+def line_of(fault, text, shown, head):
+    """The line of a fault behind the first: its place, and what is known of the very word, or else its code, its meaning, and what there is instead."""
+    line, column = place_of(text, fault.at)
+    if fault.hints:
+        word = next((f"{token.text}: " for token in tokens_of(text) if token.at == fault.at and (token.kind in (NUMBER, POINT) or is_known(token))), "")
+        return f"{shown}:{line}:{column}: {word}{'; '.join(fault.hints)}"
+    about = about_tracepoint(text, fault.at, head) if head and fault.code in ("A1", "A2") else []
+    about += about_fields(text, fault.at, head) if head and fault.code in ("Y1", "Y2") else []
+    return f"{shown}:{line}:{column}: {fault.code} {fault.text}: {' '.join(meaning_of(fault.code, fault.text)[:1] + about)}"
+
+
+def explanation(ended, text, names, recording, checks=None):
+    """All lines for a script's check: of a refusal by its name and of the faults behind it, or of an accepted script the notes on it. The names are
+    those of the script as the program has it and as the words do; `checks` asks the program for the faults behind the first, where there is one."""
     script, shown = names
     if ended.status == 0 and text is not None:
         return notes_of(text, probes_of(text), recording, shown, False) or ["This script prints the same in every order of CPUs."]
     refusal = refusal_in(ended.told, [shown, recording])
-    return explained(refusal, text if refusal.name == shown else None, recording) if refusal else []
+    if refusal is None:
+        return []
+    lines = explained(refusal, text if refusal.name == shown else None, recording)
+    if refusal.name == shown and refusal.line and text is not None and checks is not None:
+        further = [line_of(fault, text, shown, checks.head) for fault in faults_of(text, checks.refusal, checks.head)[1:]]
+        lines += ["Refused as well:", *further] if further else []
+    return lines

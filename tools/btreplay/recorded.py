@@ -14,6 +14,7 @@ import time
 from dataclasses import dataclass
 
 from btreplay.places import TOOLS
+from btreplay.script import probes_of
 
 if str(TOOLS / "btrecord") not in sys.path:
     sys.path.append(str(TOOLS / "btrecord"))
@@ -21,6 +22,8 @@ if str(TOOLS / "btrecord") not in sys.path:
 import reading  # noqa: E402  (the line above finds it)
 from container import CPU, EVENT, EVENT_KIND, HEADER, MARK, MARK_KIND, MOST_BYTES, VERSIONS  # noqa: E402
 
+# How scripts see fields; what else there is they cannot read.
+SEEN = {"number": "number", "characters": "string", "dynamic characters": "string"}
 LENGTH = struct.Struct("<I")
 MAGIC_BYTES = 8
 SOME_EVENTS = 65_536
@@ -111,3 +114,10 @@ def matcher(point):
     _, _, name = point.partition(":")
     found = re.compile(".*".join(map(re.escape, name.split("*"))))
     return lambda format: name.count(":") == 1 and found.fullmatch(format.name)
+
+
+def formats_of(text, at, head):
+    """The formats that the points of the probe at an offset of a script's text fit, of a recording with this head; none where there is no head."""
+    found = [probe for probe in probes_of(text) if probe.tokens and probe.tokens[0].at <= at]
+    points = [point for point, _ in found[-1].points if point[0] == "t" and ":" in point] if found and head else []
+    return [format for format in head.formats if any(matcher(point)(format) for point in points)] if points else []
