@@ -12,6 +12,7 @@ from btreplay.script import probes_of
 from btreplay.tokens import NUMBER, POINT, offset_of, place_of, tokens_of
 
 MOST_FIELDS = 40
+MORE = "What stands behind this can be looked at once it is mended: explain again."
 
 
 def word_at(text, at):
@@ -95,6 +96,8 @@ def explanation(ended, text, names, recording, checks=None):
         return []
     lines = explained(refusal, text if refusal.name == shown else None, recording)
     if refusal.name == shown and refusal.line and text is not None and checks is not None:
-        further = [line_of(fault, text, shown, checks.head) for fault in faults_of(text, checks.refusal, checks.head)[1:]]
+        found, is_all = faults_of(text, checks.refusal, checks.head)
+        further = [line_of(fault, text, shown, checks.head) for fault in found[1:]]
         lines += ["Refused as well:", *further] if further else []
+        lines += [] if is_all else [MORE]
     return lines

@@ -12,7 +12,7 @@ from btreplay.script import probes_of
 from btreplay.tokens import offset_of
 
 MOST_ROUNDS = 100
-SECONDS = 5
+SECONDS = 10
 # Faults of types, which can come of a part whose kind is not known.
 OF_TYPES = ("Y3", "Y4", "Y5", "Y6", "Y7", "Y8", "Y9", "Y10")
 OWN = -1
@@ -79,13 +79,15 @@ def probe_range(text, at):
 
 
 def faults_of(script, check, head):
-    """All faults of a script's text that can be found, the one that the program refuses first, and the others in the order of their places.
+    """All faults of a script's text that can be found, the one that the program refuses first, and the others in the order of their places; and
+    whether the search came to the end.
 
     `check` answers the first refusal of a text, or none; `head` is the recording's, or none."""
-    copy, found = Copy(script, list(range(len(script)))), []
+    copy, found, is_all = Copy(script, list(range(len(script)))), [], False
     until = time.monotonic() + SECONDS
     for _ in range(MOST_ROUNDS):
         refusal = check(copy.text)
+        is_all = refusal is None
         if refusal is None or not refusal.line or time.monotonic() > until:
             break
         at = offset_of(copy.text, refusal.line, refusal.column)
@@ -99,7 +101,7 @@ def faults_of(script, check, head):
             copy.mend(remedy, probe_range(copy.text, at))
         if copy.text == before:
             break
-    return found[:1] + sorted(once(found[1:], found[:1]), key=lambda fault: fault.at)
+    return found[:1] + sorted(once(found[1:], found[:1]), key=lambda fault: fault.at), is_all
 
 
 def once(faults, before):

@@ -143,7 +143,7 @@ def known(token):
     """A hint for a word that bpftrace has, or the kernel's headers."""
     if token.text in PROBES:
         return "a recording holds tracepoints: the probes are tracepoint:SYSTEM:EVENT, interval:UNIT:NUMBER, BEGIN and END"
-    if token.text in CASTS:
+    if token.text in CASTS and token.text != "struct":
         return "there are no casts: all numbers have 64 bits and a sign"
     if ARGUMENT.fullmatch(token.text):
         return "arguments of the kernel's functions are not in a recording: the fields of a tracepoint are read as args.NAME"

@@ -271,7 +271,7 @@ def of_syntax(place, formats):
         return Remedy(((len(place.text), len(place.text), " }" * depth),)) if depth and is_all else None
     if not place.is_in_block and not any(token.text == "/" for token in place.tokens[:place.here][-1:]) and at_points(place):
         return at_points(place)
-    if place.token.kind == WORD and place.token.text in ("for", "let"):
+    if place.token.kind == WORD and place.token.text in ("for", "let", "and", "or", "not"):
         return at_word(place, formats)
     found = in_a_call(place) or of_what_is_missing(place)
     if not found and place.token.kind == MARK:

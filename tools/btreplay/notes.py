@@ -1,4 +1,4 @@
-"""What a user would want to know of a script that was run, beside what it printed."""
+"""What a user would want to know of a script that is accepted, beside what it prints."""
 import difflib
 import time
 
@@ -6,6 +6,7 @@ from btreplay.order import reasons_of
 from btreplay.recorded import head_of, mapped, matcher, without_events
 from btreplay.script import ADD, CHANGE, SET
 from btreplay.tokens import place_of
+from btreplay.unseen import addresses, unseen_texts
 
 # How long a recording is looked through for events that a script names.
 SECONDS = 3
@@ -67,5 +68,8 @@ def notes_of(text, probes, recording, name, is_ordered):
     """All lines for a script that runs over a recording: each with the script's name where it has a place."""
     with mapped(recording) as data:
         head = head_of(data) if data is not None else None
-        placed = never_set(probes, text) + (idle_points(probes, text, data, head) if head else [])
+        placed = never_set(probes, text)
+        if head:
+            placed += idle_points(probes, text, data, head) + unseen_texts(probes, text, data, head, time.monotonic() + SECONDS)
+            placed += addresses(probes, text, head)
     return ([] if is_ordered else about_order(probes, head)) + [f"{name}:{line}" for line in placed]

@@ -109,6 +109,24 @@ def without_events(data, head, groups, until):
     return set()
 
 
+def entries(data, head):
+    """The places of a recording's events: where each begins, where its payload does, and where it ends. A damaged one ends by a fault of its bytes."""
+    at = head.behind
+    for _ in range(head.cpus):
+        _, count = CPU.unpack_from(data, at)
+        at += CPU.size
+        for _ in range(count):
+            if head.version == 2:
+                if data[at] == MARK_KIND:
+                    at += MARK.size
+                    continue
+                at += 1
+            payload = at + EVENT.size
+            end = payload + LENGTH.unpack_from(data, payload - LENGTH.size)[0]
+            yield at, payload, end
+            at = end
+
+
 def matcher(point):
     """Whether a format fits a point `tracepoint:SYSTEM:EVENT`, where `*` stands for any characters."""
     _, _, name = point.partition(":")
