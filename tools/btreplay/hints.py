@@ -54,6 +54,10 @@ ARGUMENT = re.compile(r"s?arg\d+")
 CALLED = re.compile(r"(?:args\s*(?:\.|->)\s*)(\w+)")
 # Names of fields that hold paths as text.
 PATHS = re.compile(rb"(?:file_?|path_?)name|path")
+# The tracepoints at which the kernel counts its events of software.
+SOFTWARE = {"page-faults": "exceptions:page_fault_user and those of the kernel", "faults": "exceptions:page_fault_user and those of the kernel",
+            "context-switches": "sched:sched_switch", "cs": "sched:sched_switch", "cpu-migrations": "sched:sched_migrate_task",
+            "migrations": "sched:sched_migrate_task"}
 CASTS = {"int8", "int16", "int32", "int64", "uint8", "uint16", "uint32", "uint64", "int", "char", "long", "void", "struct", "bool", "unsigned", "signed", "short", "u8", "u16", "u32", "u64", "s8", "s16", "s32", "s64", "size_t", "pid_t"}
 
 
@@ -139,6 +143,14 @@ def is_known(token):
     return bool(known(token))
 
 
+def at_probe(tokens, place):
+    """A hint for a probe that is none of a recording's, with the tracepoint that stands for it where there is one."""
+    name = "".join(token.text for token in tokens[place + 2:place + 5] if token.text == "-" or token.kind == WORD)
+    instead = next((point for begin, point in SOFTWARE.items() if tokens[place].text in ("software", "s") and name.startswith(begin)), "")
+    hint = "a recording holds tracepoints: the probes are tracepoint:SYSTEM:EVENT, interval:UNIT:NUMBER, BEGIN and END"
+    return hint + (f"; these are tracepoint:{instead}" if instead else "")
+
+
 def known(token):
     """A hint for a word that bpftrace has, or the kernel's headers."""
     if token.text in PROBES:
@@ -157,7 +169,8 @@ def about_str(tokens, place, text, head):
     found = CALLED.match(given.strip())
     fields = [field for format in formats_of(text, tokens[place].at, head) for field in format.layout.fields if found and field.name == found[1].encode()]
     if not found:
-        return "what stands at an address is not in a recording: of an event's strings each is read as it is, as args.f"
+        return ("what stands at an address is not in a recording, and of an event's strings each is read as it is, as args.f; "
+                + instead_of_path(text, tokens[place].at, head))
     name = f"args.{found[1]}"
     if any(SEEN.get(field.kind) == "string" for field in fields) or not fields:
         return f"a string of an event is read as it is: str({name}) is {name}" if fields else WORDS["str"]
@@ -194,6 +207,8 @@ def at_refusal(text, at, head=None):
     before = tokens[place - 1] if place else None
     if token.text == "str" and token.kind == WORD and place + 1 < len(tokens) and tokens[place + 1].text == "(":
         return [about_str(tokens, place, text, head)]
+    if token.text in PROBES and token.kind == WORD and place + 1 < len(tokens) and tokens[place + 1].text == ":":
+        return [at_probe(tokens, place)]
     found = in_call(tokens, place) or {POINT: lambda: at_point(token.text), NUMBER: lambda: at_number(token.text) if at > token.at else "",
              MARK: lambda: at_mark(tokens, place), WORD: lambda: known(token)}.get(token.kind, lambda: "")()
     if not found and token.text == "$":

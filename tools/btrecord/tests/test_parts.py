@@ -172,9 +172,10 @@ class Cut(Parts):
             f"btrecord: 1 of the 5 events are in {self.out}, from 5.000000000 to 7.000000000 s\n"
             "btrecord: 1 of the 2 formats and all CPUs are kept\n")))
 
-    def test_it_may_take_the_place_of_the_recording(self):
-        self.assertEqual(self.told("cut", self.path, "--pid", "40", "-o", self.path)[0], 0)
-        self.assertEqual(pathlib.Path(self.path).read_bytes(), recording([(0, []), (2, []), (5, SECOND_CPU[:1])]))
+    def test_it_does_not_take_the_place_of_the_recording(self):
+        status, _, told = self.told("cut", self.path, "--pid", "40", "-o", self.path)
+        self.assertEqual((status, told), (WORDS, f"btrecord: {self.path} is read, and would be written over: name another file by -o\n"))
+        self.assertEqual(pathlib.Path(self.path).read_bytes(), WHOLE)
         self.assertEqual(os.listdir(self.folder), ["r.btr"])
 
     def test_from_a_pipe(self):

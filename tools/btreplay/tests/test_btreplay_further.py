@@ -141,7 +141,8 @@ class Further(unittest.TestCase):
             self.assertEqual(done.stdout.decode().splitlines()[:2], ["  #include <a.h>", "  ^"])
             self.assertEqual(done.stdout.decode().splitlines()[-4:], [
                 "Refused as well:",
-                f"{file.name}:2:1: software: a recording holds tracepoints: the probes are tracepoint:SYSTEM:EVENT, interval:UNIT:NUMBER, BEGIN and END",
+                f"{file.name}:2:1: software: a recording holds tracepoints: the probes are tracepoint:SYSTEM:EVENT, interval:UNIT:NUMBER, BEGIN and END"
+                "; these are tracepoint:exceptions:page_fault_user and those of the kernel",
                 f"{file.name}:3:42: TASK_RUNNING: names of the kernel's constants are not known here: write 0",
                 f"{file.name}:3:61: str: a string of an event is read as it is: str(args.prev_comm) is args.prev_comm"])
 
