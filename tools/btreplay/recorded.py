@@ -123,6 +123,8 @@ def entries(data, head):
                 at += 1
             payload = at + EVENT.size
             end = payload + LENGTH.unpack_from(data, payload - LENGTH.size)[0]
+            if end > len(data):
+                raise IndexError("an event ends behind the recording")
             yield at, payload, end
             at = end
 
