@@ -5,8 +5,8 @@ What is refused in a part that was put in here, and what may come of it, is not 
 import time
 from dataclasses import dataclass, field
 
-from btreplay.hints import at_refusal
-from btreplay.mending import Place, remedy_of
+from btreplay.hints import at_refusal, is_known
+from btreplay.mending import Place, is_balanced, remedy_of
 from btreplay.recorded import formats_of
 from btreplay.script import probes_of
 from btreplay.tokens import offset_of
@@ -37,6 +37,7 @@ class Copy:
     doubts: list = field(default_factory=list)
     names: set = field(default_factory=set)
     foreign: list = field(default_factory=list)
+    guessed: list = field(default_factory=list)
 
     def own(self, begin, end):
         """The offsets in the script of a range that come from it."""
@@ -45,7 +46,9 @@ class Copy:
     def mend(self, remedy, probe):
         """Does the edits of a remedy, from the last to the first, and notes what is in doubt."""
         for begin, end in remedy.doubts:
-            self.doubts += [(min(own), max(own)) for own in [self.own(begin, end)] if own]
+            found = [(min(own), max(own)) for own in [self.own(begin, end)] if own]
+            self.doubts += found
+            self.guessed += found if remedy.is_guess else []
         self.names |= remedy.names
         if remedy.is_foreign and probe:
             own = self.own(*probe)
@@ -57,7 +60,7 @@ class Copy:
     def is_doubtful(self, at, code):
         """Whether a refusal may come of what was put in."""
         place = self.places[at] if at < len(self.places) else len(self.text)
-        if place == OWN:
+        if place == OWN or any(begin <= place <= end for begin, end in self.guessed):
             return True
         if code == "Y10" and any(begin <= place <= end for begin, end in self.foreign):
             return True
@@ -68,6 +71,12 @@ class Copy:
             return False
         first, behind = here.statement()
         return any(begin <= place <= end for begin, end in self.doubts) or any(token.text in self.names for token in here.tokens[first:behind])
+
+
+def is_sure(text, at):
+    """Whether a fault is none of the brackets round it: a word of bpftrace's, or an end that lacks braces alone."""
+    token = Place(text, at).token
+    return is_known(token) and token.text not in ("BEGIN", "END") if token is not None else at >= len(text.rstrip())
 
 
 def probe_range(text, at):
@@ -97,6 +106,8 @@ def faults_of(script, check, head):
             found.append(Fault(place, refusal.code, refusal.text, tuple(at_refusal(copy.text, at, head)) if refusal.code[0] in "XP" else ()))
         remedy = remedy_of(copy.text, at, refusal.code, formats)
         before = copy.text
+        if refusal.code == "P1" and not is_balanced(copy.text) and not is_sure(copy.text, at):
+            break
         if remedy is not None:
             copy.mend(remedy, probe_range(copy.text, at))
         if copy.text == before:

@@ -157,6 +157,8 @@ def known(token):
         return "a recording holds tracepoints: the probes are tracepoint:SYSTEM:EVENT, interval:UNIT:NUMBER, BEGIN and END"
     if token.text in CASTS and token.text != "struct":
         return "there are no casts: all numbers have 64 bits and a sign"
+    if token.text in ("BEGIN", "END"):
+        return "a probe stands outside of all blocks: look for a brace that is missing in front of it"
     if ARGUMENT.fullmatch(token.text):
         return "arguments of the kernel's functions are not in a recording: the fields of a tracepoint are read as args.NAME"
     return WORDS.get(token.text) or about_constant(token.text)

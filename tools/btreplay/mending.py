@@ -4,7 +4,7 @@ A remedy has edits of the text and says what is in doubt behind them: a place wh
 and variables that are set by it. What is refused there for its type may come of the remedy, so it is not told.
 """
 import re
-from dataclasses import dataclass
+from dataclasses import dataclass, replace
 
 from btreplay.constants import about_constant, value_of
 from btreplay.hints import (BARE_TEXTS, BUILTINS, CASTS, KINDS_OF_CALLS, PROBES, at_point, exponent_of, is_end_of_a_statement, needs_braces,
@@ -20,13 +20,14 @@ BLOCKS = ("config", "struct", "union", "enum", "fn", "macro")
 
 @dataclass(frozen=True)
 class Remedy:
-    """Edits, as triples of begin, end and new text; the ranges in which types are in doubt; names in doubt; and whether a point was replaced, so
-    that `args` stand for nothing in its probe."""
+    """Edits, as triples of begin, end and new text; the ranges in which types are in doubt; names in doubt; whether a point was replaced, so that
+    `args` stand for nothing in its probe; and whether it is a guess, so that in the ranges nothing is sure."""
 
     edits: tuple
     doubts: tuple = ()
     names: frozenset = frozenset()
     is_foreign: bool = False
+    is_guess: bool = False
 
 
 class Place:
@@ -41,6 +42,13 @@ class Place:
         self.before = self.tokens[self.here - 1] if found and self.here else None
         self.opened = opened_by(self.tokens, self.here) if found else []
         self.is_in_block = any(self.tokens[place].text == "{" for place in self.opened)
+
+    def is_in_predicate(self):
+        """Whether a / stands between the block in front of this place and the place, outside of all blocks."""
+        for token in reversed(self.tokens[:self.here]):
+            if token.kind == MARK and token.text in ("/", "{", "}"):
+                return token.text == "/"
+        return False
 
     def end(self, place):
         """The offset behind a token."""
@@ -72,6 +80,10 @@ class Place:
             depth += (text in ("(", "[")) - (text in (")", "]"))
             behind += 1
         return first, behind
+
+    def all_names(self, first, behind):
+        """The maps and variables that stand in tokens."""
+        return frozenset(token.text for token in self.tokens[first:behind] if token.kind in (MAP, VARIABLE))
 
     def set_names(self, first, behind):
         """The maps and variables that tokens set."""
@@ -235,7 +247,7 @@ def at_mark(place):
         return Remedy(((place.token.at, place.end(end_of(tokens, here) - 1), ""),))
     if text == "[" and place.before and place.before.kind in (WORD, VARIABLE):
         return replaced(place, place.token.at, place.end(end_of(tokens, here) - 1), "", True)
-    if text in (".", "->") and place.before and here + 1 < len(tokens):
+    if text in (".", "->") and here + 1 < len(tokens) and (place.before.kind in (WORD, VARIABLE, MAP) or place.is_at(here - 1, ")", "]")):
         return replaced(place, place.token.at, place.end(here + 1), "", True)
     return None
 
@@ -253,13 +265,15 @@ def in_a_call(place):
 
 def of_what_is_missing(place):
     """Puts in what is missing: a ; between statements, or the braces of a block of one statement."""
+    first, end = place.statement()
+    doubts, names = ((place.begin(first), place.end(min(end, len(place.tokens) - 1))),), place.all_names(first, end)
     if needs_braces(place.tokens, place.here):
         behind = next((at for at in range(place.here, len(place.tokens)) if place.is_at(at, ";", "}", "{")), None)
         if behind is not None and place.is_at(behind, ";"):
-            return Remedy(((place.token.at, place.token.at, "{ "), (place.end(behind), place.end(behind), " }")))
+            return Remedy(((place.token.at, place.token.at, "{ "), (place.end(behind), place.end(behind), " }")), doubts, names, is_guess=True)
         return None
     if place.before and is_end_of_a_statement(place.before) and place.token.kind not in (MARK, "other"):
-        return Remedy(((place.token.at, place.token.at, "; "),))
+        return Remedy(((place.token.at, place.token.at, "; "),), doubts, names, is_guess=True)
     return None
 
 
@@ -271,6 +285,8 @@ def of_syntax(place, formats):
         return Remedy(((len(place.text), len(place.text), " }" * depth),)) if depth and is_all else None
     if not place.is_in_block and not any(token.text == "/" for token in place.tokens[:place.here][-1:]) and at_points(place):
         return at_points(place)
+    if not place.is_in_block and not place.is_in_predicate():
+        return None
     if place.token.kind == WORD and place.token.text in ("for", "let", "and", "or", "not"):
         return at_word(place, formats)
     found = in_a_call(place) or of_what_is_missing(place)
@@ -278,7 +294,24 @@ def of_syntax(place, formats):
         found = at_mark(place)
     if not found and place.token.kind == WORD and (place.is_in_block or place.opened or place.before):
         found = at_word(place, formats)
-    return found or without_statement(place)
+    return found or as_guess(place, without_statement(place))
+
+
+def as_guess(place, remedy):
+    """A remedy of which it is not known whether it is what was meant: all that stands in its statement is in doubt."""
+    first, behind = place.statement()
+    return remedy and replace(remedy, names=remedy.names | place.all_names(first, behind), is_guess=True)
+
+
+def is_balanced(text):
+    """Whether each bracket of a text has its other one."""
+    opened, pairs = [], {")": "(", "]": "[", "}": "{"}
+    for token in tokens_of(text):
+        if token.kind == MARK and token.text in pairs.values():
+            opened.append(token.text)
+        elif token.kind == MARK and token.text in pairs and (not opened or opened.pop() != pairs[token.text]):
+            return False
+    return not opened
 
 
 def of_point(place):

@@ -122,6 +122,15 @@ class Further(unittest.TestCase):
             self.assertEqual([fault.code for fault in found][:1], codes)
             self.assertLessEqual(len(found), 2)
 
+    def test_a_token_that_is_missing(self):
+        """What comes of a bracket, an = or a word that is missing is no fault of its own: one place is told."""
+        script = "t:sched:sched_switch /args.prev_pid != 0/ { $x = args.next_pid; @a[args.prev_comm, $x] = count(); if ($x > 5) { @b = hist($x); } } END { clear(@a); }"
+        for part in ("]", "[", "args", "(", ")", "}", "{", " = ", "/"):
+            at = script.index(part)
+            for missing in (script[:at] + script[at + len(part):], script.replace(part, "", 1)):
+                found, _ = faults_of(missing, self.checks.refusal, self.checks.head)
+                self.assertLessEqual(len(found), 1, (missing, found))
+
     def test_any_cut_of_any_script(self):
         """Nothing that stands in a script makes the search fail, and it ends."""
         text = unmarked("\n".join(PROBES))[0]
