@@ -48,7 +48,8 @@ class Copy:
         for begin, end in remedy.doubts:
             found = [(min(own), max(own)) for own in [self.own(begin, end)] if own]
             self.doubts += found
-            self.guessed += found if remedy.is_guess else []
+            # The ; behind a statement belongs to it.
+            self.guessed += [(first, last + 1) for first, last in found] if remedy.is_guess else []
         self.names |= remedy.names
         if remedy.is_foreign and probe:
             own = self.own(*probe)

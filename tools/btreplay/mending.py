@@ -248,7 +248,7 @@ def at_mark(place):
     if text == "[" and place.before and place.before.kind in (WORD, VARIABLE):
         return replaced(place, place.token.at, place.end(end_of(tokens, here) - 1), "", True)
     if text in (".", "->") and here + 1 < len(tokens) and (place.before.kind in (WORD, VARIABLE, MAP) or place.is_at(here - 1, ")", "]")):
-        return replaced(place, place.token.at, place.end(here + 1), "", True)
+        return as_guess(place, replaced(place, place.token.at, place.end(here + 1), "", True))
     return None
 
 
