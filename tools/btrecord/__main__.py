@@ -11,19 +11,21 @@ record, convert and cut also take --v1, for a recording without marks of lost ev
 
 This program is not proved. btreplay checks each recording that it is given.
 """
-import contextlib
-import importlib.util
-import os
-import signal
-import sys
+# Ctrl-C ends it without a word while its modules are read, as it does later; `signal` itself is one that is read, and this is in Python.
+import _signal
+
+FINDS_CTRL_C = _signal.getsignal(_signal.SIGINT) is _signal.default_int_handler
+if FINDS_CTRL_C:
+    _signal.signal(_signal.SIGINT, _signal.SIG_DFL)
+
+import contextlib  # noqa: E402
+import importlib.util  # noqa: E402
+import os  # noqa: E402
+import signal  # noqa: E402
+import sys  # noqa: E402
 
 if sys.version_info < (3, 8):
     sys.exit("btrecord: Python %s is too old for this command, which needs 3.8" % sys.version.split()[0])
-
-# Ctrl-C ends it without a word while its modules are read, as it does later.
-FINDS_CTRL_C = signal.getsignal(signal.SIGINT) is signal.default_int_handler
-if FINDS_CTRL_C:
-    signal.signal(signal.SIGINT, signal.SIG_DFL)
 
 # Who records as root, in a folder of somebody else, leaves nothing there. What Python kept of this file it kept before it read this.
 if not sys.dont_write_bytecode:

@@ -35,12 +35,18 @@ def number_in(status, label):
     return int(found[1]) if found else 0
 
 
+def worker_name(shown):
+    """What the kernel calls a worker of its own of which /proc shows a name, whole or cut."""
+    found = WORKER.fullmatch(shown)
+    return found[1] if found else shown
+
+
 def kernel_name(shown, stat):
     """What the kernel calls a thread of which /proc shows a name, and a line `stat` that tells whether it is a worker of the kernel's."""
     fields = stat.rpartition(b")")[2].split()
     if len(fields) > 6 and fields[6].isdigit() and int(fields[6]) & KERNEL_WORKER:
-        found = WORKER.fullmatch(shown) or RESCUER.fullmatch(shown)
-        shown = found[1] if found else shown
+        found = RESCUER.fullmatch(shown)
+        shown = found[1] if found else worker_name(shown)
     return shown[:NAME_BYTES]
 
 

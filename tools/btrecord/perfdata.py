@@ -13,6 +13,7 @@ from dataclasses import dataclass, field
 from assembly import Assembly
 from container import format_of, test_formats
 from faults import READ, Ended, Refused, of_file
+from looks import worker_name
 from record import Made
 from signals import Signals, name_of
 from tasks import Change, Renaming, Tasks, text_of
@@ -39,6 +40,8 @@ SAMPLE_ID_ALL = 1 << 18
 FIXED_PARTS = [IDENTIFIER, IP, TID, TIME, ADDR, ID, STREAM_ID, CPU, PERIOD]
 PARTS_BEHIND = [TID, TIME, ID, STREAM_ID, CPU, IDENTIFIER]
 
+# The thread that begins the kernel's own, and its name.
+KERNEL_PARENT, KERNEL_PARENT_NAME = 2, b"kthreadd"
 EVENTS_BETWEEN_SIGNALS = 8192
 GROUP_OF_COUNTS = 8
 HEAD = struct.Struct("<IHH")
@@ -332,6 +335,20 @@ def read_records(data, parts, layouts):
     return found
 
 
+def with_kernel_names(changes):
+    """What is told of threads, each with its place, with the kernel's names of its workers.
+
+    perf takes from /proc what was there when it began, where what a worker works for stands behind its name; these records have no time. The
+    kernel's threads are those that kthreadd began. What the kernel tells itself stays.
+    """
+    first = [change for _, change in changes if change.time == 0]
+    if not any(change.thread == KERNEL_PARENT and change.name == KERNEL_PARENT_NAME for change in first):
+        return changes
+    of_kernel = {change.thread for change in first if change.parent == KERNEL_PARENT and change.process == change.thread}
+    return [(at, change._replace(name=worker_name(change.name)) if change.name and change.time == 0 and change.thread in of_kernel else change)
+            for at, change in changes]
+
+
 def take_sample(found, data, where, layouts):
     """Notes a sample."""
     a = layouts.of_sample(data, *where)
@@ -425,7 +442,7 @@ def convert(path, folder, open_output, data=None, with_marks=True):
 def assemble(data, found, layouts, assembly, signals):
     """Puts the samples and the losses into the assembly by their times, those of one time as they stood, and so what is told of threads."""
     tasks, renaming = Tasks((), 0), Renaming(assembly.formats)
-    changes = deque(sorted(found.changes, key=lambda placed: (placed[1].time, placed[0])))
+    changes = deque(sorted(with_kernel_names(found.changes), key=lambda placed: (placed[1].time, placed[0])))
     for handled, k in enumerate(sorted(range(len(found.times)), key=found.times.__getitem__)):
         if handled % EVENTS_BETWEEN_SIGNALS == 0:
             came = signals.wait(0)
