@@ -11,12 +11,19 @@ record, convert and cut also take --v1, for a recording without marks of lost ev
 
 This program is not proved. btreplay checks each recording that it is given.
 """
-import contextlib
-import glob
-import importlib.util
-import os
-import signal
-import sys
+# Ctrl-C ends it without a word while its modules are read, as it does later; `signal` itself is one that is read, and this is in Python.
+import _signal
+
+FINDS_CTRL_C = _signal.getsignal(_signal.SIGINT) is _signal.default_int_handler
+if FINDS_CTRL_C:
+    _signal.signal(_signal.SIGINT, _signal.SIG_DFL)
+
+import contextlib  # noqa: E402
+import glob  # noqa: E402
+import importlib.util  # noqa: E402
+import os  # noqa: E402
+import signal  # noqa: E402
+import sys  # noqa: E402
 
 if sys.version_info < (3, 8):
     sys.exit("btrecord: Python %s is too old for this command, which needs 3.8" % sys.version.split()[0])
@@ -139,6 +146,8 @@ def run_making(asked):
 def main(arguments):
     """Does what the words ask, and gives the status of README's table."""
     try:
+        if FINDS_CTRL_C:
+            signal.signal(signal.SIGINT, signal.default_int_handler)
         return run(parsed(arguments))
     except (Refused, Ended) as fault:
         tell(str(fault).split("\n"))

@@ -87,6 +87,27 @@ class PerfFiles(unittest.TestCase):
         self.assertEqual([(f.system, f.text) for f in self.contents.formats], [(b"demo", TEXT)])
         self.assertEqual((self.contents.start, self.contents.end), (10, 30))
 
+    def test_a_new_name_holds_behind_the_record_that_tells_it(self):
+        """Also where the times are the same, which come from a coarse clock."""
+        made, events = self.converted(perf_file(records=comm(0, 1235, b"old") + sample(20, 0, payload()) + comm(20, 1235, b"new") + sample(20, 0, payload())))
+        self.assertEqual(events, [(0, 20, 1234, b"old"), (0, 20, 1234, b"new")])
+
+    def test_workers_have_the_kernels_name(self):
+        """What perf took from /proc has behind a worker's name what it works for; who is not of the kernel may have such a name."""
+        def named(time, thread, name, parent, process=None):
+            began = struct.pack("<IIIIQ", process or thread, parent, thread, parent, 0) + struct.pack("<IIQII", thread, thread, 0, 0, 0)
+            return part(7, began) + comm(time, thread, name.ljust(16, b"\0"))
+        told = comm(0, 2, b"kthreadd".ljust(16, b"\0")) + named(0, 40, b"kworker/1:2-eve", 2) + named(0, 41, b"kworker/1:1-x", 1)
+        told += named(0, 42, b"kworker/u16:1+e", 2) + named(0, 43, b"kworker/R-rcu_g", 2) + named(0, 44, b"irq/9-acpi", 2)
+        told += named(0, 45, b"kworker/0:1-x", 2, 41) + named(5, 46, b"kworker/0:2-x", 2)
+        samples = b"".join(sample(10 + k, 0, payload(), 40 + k) for k in range(7))
+        _, events = self.converted(perf_file(records=told + samples))
+        wanted = [b"kworker/1:2", b"kworker/1:1-x", b"kworker/u16:1", b"kworker/R-rcu_g", b"irq/9-acpi", b"kworker/0:1-x", b"kworker/0:2-x"]
+        self.assertEqual([event[3] for event in events], wanted)
+        # Where the thread 2 is another one, nobody knows which are the kernel's.
+        _, events = self.converted(perf_file(records=told.replace(b"kthreadd", b"sh".ljust(8, b"\0")) + samples))
+        self.assertEqual(events[0][3], b"kworker/1:2-eve")
+
     def test_a_loss_is_told_once(self):
         lost, again = part(2, struct.pack("<QQ", 1, 4)) + part(2, struct.pack("<QQ", 1, 5)), part(13, struct.pack("<Q", 9))
         filtered = struct.pack("<IHHQ", 13, 1 << 15, 16, 100)
