@@ -47,6 +47,13 @@ def program_for(question):
         yield str(proved.program())
 
 
+def version(is_unproved):
+    """The version of the program here, in words: with what it was proved, or which sources a build is made from that is not."""
+    if is_unproved and is_checkout():
+        return f"the build that is not proved, of sources {unproved.checksum()[:12]}"
+    return proved.version()
+
+
 class Run:
     """One question, which is answered in the thread that calls `answer` and can be ended from another one."""
 

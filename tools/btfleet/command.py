@@ -5,6 +5,7 @@ import os
 import signal
 import sys
 
+from btfleet.asking import version
 from btfleet.engine import connected
 from btfleet.faults import ENGINE, MEMORY, READ, SCRIPT, WORDS, WRITE, Refused
 from btfleet.fleet import Fleet, Question
@@ -113,9 +114,9 @@ async def ask_here(asked, question, named_here, result, progress):
         await gather(Here(question, program, progress).answers(result.asked), result, progress)
 
 
-def told_programs(seen):
+def told_programs(seen, is_unproved):
     """What is told of hosts whose program is another one than here."""
-    here, others = proved.version(), {}
+    here, others = version(is_unproved), {}
     for name, found in seen.items():
         if found.program and found.program != here:
             others.setdefault(found.program, []).append(name)
@@ -131,12 +132,12 @@ async def ask_hosts(asked, question, operands_named, result, progress):
               for name, when in (await link.taken_names()).items()])
         hosts = hosts_of(known)
         wanted = wanted_of(operands_named, hosts)
-        seen = await survey(link, wanted, progress)
-        result.asked = placed(operands_named, hosts, seen)
+        seen = await survey(link, wanted, asked.unproved, progress)
+        result.asked, notes = placed(operands_named, hosts, seen)
         expected(result.asked, hosts_expected(asked.hosts) if asked.hosts else [], hosts, operands_named)
         progress.count = len(result.asked)
-        tell(alike_told(result.asked))
-        tell(told_programs({host.name: seen[host.place()] for host, _ in wanted}))
+        tell(notes + alike_told(result.asked))
+        tell(told_programs({host.name: seen[host.place()] for host, _ in wanted}, asked.unproved))
         await gather(Fleet(link, question, progress).answers(result.asked, known), result, progress)
 
 

@@ -21,6 +21,7 @@ GRACE_SECONDS = 20
 HANG_SECONDS = 30
 END_SECONDS = 3
 MOST_DEATHS = 4
+STATES = ("waiting", "running", "silent")
 GONE = "the scheduler is gone"
 DIED, LEFT = "each worker that was asked died of it", "no worker that holds it is there any more"
 
@@ -166,6 +167,8 @@ class Fleet:
                     return ended_of(answer, printed)
                 if answer.get("state") == "unknown":
                     raise Lost("it was started anew")
+                if answer.get("state") not in STATES:
+                    raise Unreadable("it tells no state of a run")
                 self.progress.slow(asked.word, time.monotonic() - began)
                 if answer["state"] != "silent":
                     fields, content = {"does": "wait", "run": name}, b""

@@ -4,6 +4,8 @@ from dataclasses import dataclass, field
 from btfleet.faults import WORDS, Refused
 from btfleet.hosts import each_of, host_named
 from btfleet.operands import EACH
+from btfleet.progress import named
+from btfleet.recording import NOT_THERE
 
 
 @dataclass
@@ -45,7 +47,7 @@ class Places:
 
     def __init__(self, hosts, seen):
         self.hosts, self.seen = hosts, seen
-        self.found, self.known, self.alike = [], {}, {}
+        self.found, self.known, self.alike, self.notes = [], {}, {}, []
 
     def add(self, word, label, path, holders, cause=""):
         """Adds a recording, by the hosts that hold it; refused where it is there under another word."""
@@ -85,9 +87,11 @@ class Places:
             one, other = sorted(files.values())[:2]
             raise Refused(f"{operand.word} is another file on {one} than on {other}: name one by {one}:{operand.path}, or that of each host by "
                           f"'{EACH}:{operand.path}'", WORDS)
-        whys = {self.seen[host.place()].why(operand.path) for host in self.hosts if host not in holders}
         silent = [host.name for host in self.hosts if self.seen[host.place()].fault]
-        cause = min(whys) if len(whys) == 1 else "there is no such file there that can be read" + (f", and {', '.join(silent)} could not be asked" if silent else "")
+        if silent and holders:
+            self.notes.append(f"{operand.word}: {named(silent)} could not be asked whether it is another file there")
+        whys = {self.seen[host.place()].why(operand.path) for host in self.hosts if host not in holders}
+        cause = min(whys) if len(whys) == 1 else NOT_THERE + (f", and {named(silent)} could not be asked" if silent else "")
         self.add(operand.word, holders[0].name if holders else "", operand.path, holders, cause)
 
     def add_each(self, operand):
@@ -103,7 +107,7 @@ class Places:
 
 
 def placed(operands, hosts, seen):
-    """All recordings that are asked, in the order of the words, by what was seen of the hosts."""
+    """All recordings that are asked, in the order of the words, by what was seen of the hosts; and what is told of them."""
     places = Places(hosts, seen)
     for operand in operands:
         if operand.host == EACH:
@@ -112,7 +116,7 @@ def placed(operands, hosts, seen):
             places.add_of(operand)
         else:
             places.add_any(operand)
-    return places.found
+    return places.found, places.notes
 
 
 def expected(found, names, hosts, operands):

@@ -10,12 +10,11 @@ import threading
 import time
 from dataclasses import dataclass, field
 
-from btfleet.asking import Question, Run
+from btfleet.asking import Question, Run, version
 from btfleet.child import Ended, Limits, killed_for_memory
 from btfleet.machine import this_machine
 from btfleet.recording import NoRecording, look, recording_of
 from btfleet.wire import FORM, Unreadable, coded, read
-from btreplay import proved
 
 # The name of the handler, and of what the scheduler knows of a worker beside Dask's own.
 NAME = "btfleet"
@@ -87,7 +86,7 @@ class Host:
     def __init__(self, allowed, count):
         self.allowed, self.room = allowed, asyncio.Semaphore(count)
         self.looks, self.runs, self.hung = asyncio.Semaphore(LOOKS_AT_A_TIME), {}, 0
-        self.program, self.machine, self.began = None, this_machine(), killed_for_memory()
+        self.machine, self.began = this_machine(), killed_for_memory()
         self.does = {"look": self.look, "ask": self.ask, "wait": self.wait, "end": self.end}
 
     def known(self, _worker=None):
@@ -139,14 +138,12 @@ class Host:
         if len(paths) > MOST_PATHS or not all(isinstance(path, str) and path.startswith("/") for path in paths):
             raise Unreadable("paths are lacking")
         found = await asyncio.gather(*map(self.look_at, paths))
-        if self.program is None:
-            self.program = await self.version()
-        return coded({"found": dict(zip(paths, found)), "program": self.program})
+        return coded({"found": dict(zip(paths, found)), "program": await self.version(fields.get("unproved") is True)})
 
-    async def version(self):
+    async def version(self, is_unproved):
         """The version of the program there, in words."""
         try:
-            return await self.timed(proved.version, LOOK_SECONDS)
+            return await self.timed(lambda: version(is_unproved), LOOK_SECONDS)
         except (Hung, OSError) as fault:
             return f"unknown: {fault}"
 

@@ -7,7 +7,7 @@ from btfleet.hosts import UNKNOWING, why_not_asked
 from btfleet.recording import recording_of
 from btfleet.wire import Unreadable
 
-LOOK_SECONDS = 15
+LOOK_SECONDS = 10
 
 
 @dataclass
@@ -39,11 +39,11 @@ def seen_of(answer, paths):
     return seen
 
 
-async def look_by(link, worker, paths):
+async def look_by(link, worker, asked):
     """What the host of a worker has, or why this worker does not tell."""
     try:
-        answer, _ = await link.call(worker.address, {"does": "look", "paths": paths}, seconds=LOOK_SECONDS)
-        return seen_of(answer, paths)
+        answer, _ = await link.call(worker.address, {"does": "look", **asked}, seconds=LOOK_SECONDS)
+        return seen_of(answer, asked["paths"])
     except Silent:
         return Seen(fault=f"it does not answer within {LOOK_SECONDS} seconds")
     except Lost:
@@ -56,12 +56,12 @@ async def look_by(link, worker, paths):
         return Seen(fault=f"the scheduler is gone: {fault}")
 
 
-async def look_at(link, host, paths):
+async def look_at(link, host, asked):
     """What a host has: by the first of its workers that tells, and each is asked."""
     why = why_not_asked(host)
     if why:
         return Seen(fault=why)
-    tasks = [asyncio.ensure_future(look_by(link, worker, sorted(paths))) for worker in host.workers if worker.machine]
+    tasks = [asyncio.ensure_future(look_by(link, worker, asked)) for worker in host.workers if worker.machine]
     try:
         found = None
         for task in asyncio.as_completed(tasks):
@@ -74,14 +74,15 @@ async def look_at(link, host, paths):
             task.cancel()
 
 
-async def survey(link, wanted, progress):
-    """What hosts have, by their places. `wanted` has pairs of a host and the paths that are asked of it."""
+async def survey(link, wanted, is_unproved, progress):
+    """What hosts have, by their places. `wanted` has pairs of a host and the paths that are asked of it. The version of the program is that of the build
+    that is not proved, where it is asked so."""
     waited = {host.place(): host.name for host, _ in wanted}
     found = {}
 
     async def one(host, paths):
         """What one has."""
-        found[host.place()] = await look_at(link, host, paths)
+        found[host.place()] = await look_at(link, host, {"paths": sorted(paths), "unproved": is_unproved})
         del waited[host.place()]
 
     tasks = asyncio.gather(*(one(host, paths) for host, paths in wanted))
