@@ -4,6 +4,7 @@ recordings that say what it answers, and a scheduler with workers on the loopbac
 Each process that is begun here ends with the test, and by itself after some time, should the test be killed.
 """
 import contextlib
+import importlib
 import json
 import os
 import pathlib
@@ -24,7 +25,7 @@ if str(TOOLS) not in sys.path:
 # A machine that does much else starts the engine in tens of seconds.
 MOST_SECONDS = 400
 COMMAND_SECONDS = 200
-START_SECONDS = 120
+START_SECONDS = 300
 WORKERS = ("web1", "web2", "web3")
 WITHOUT_DASK = f"{sys.executable} has no Dask (Debian's package python3-distributed brings it for /usr/bin/python3)"
 
@@ -127,22 +128,47 @@ class Installed:
 
 
 class Process:
-    """A process in a session of its own, with all that it begins. It ends by itself after some time."""
+    """A process in a session of its own, with all that it begins, which runs a command of the engine. It ends by itself after some time. It is forked, so that the
+    engine is imported once for all."""
 
-    def __init__(self, words, log, folder, **environment):
-        with open(log, "wb") as file:
-            self.process = subprocess.Popen(["timeout", "-k", "1", str(MOST_SECONDS), *words], stdin=subprocess.DEVNULL, stdout=file, stderr=file,
-                                            cwd=folder, start_new_session=True, env={**os.environ, **environment})
+    def __init__(self, module, words, log, folder, **environment):
+        self.status = None
+        self.pid = os.fork()
+        if self.pid == 0:
+            try:
+                self.become(module, words, log, folder, environment)
+            finally:
+                os._exit(1)
+
+    def become(self, module, words, log, folder, environment):
+        """What the forked process does."""
+        os.setsid()
+        os.chdir(folder)
+        os.environ.update(environment)
+        for number, name, flags in ((0, os.devnull, os.O_RDONLY), (1, log, os.O_WRONLY | os.O_CREAT | os.O_TRUNC), (2, log, os.O_WRONLY | os.O_APPEND)):
+            os.dup2(os.open(name, flags, 0o644), number)
+        signal.signal(signal.SIGINT, signal.default_int_handler)
+        signal.alarm(MOST_SECONDS)
+        sys.argv = [module, *words]
+        importlib.import_module(module).main(words)
+
+    def is_there(self):
+        """Whether it has not ended."""
+        if self.status is None:
+            found, status = os.waitpid(self.pid, os.WNOHANG)
+            self.status = status if found else None
+        return self.status is None
 
     def kill(self):
         """Kills it with all that it began."""
         with contextlib.suppress(ProcessLookupError):
-            os.killpg(self.process.pid, signal.SIGKILL)
-        self.process.wait()
+            os.killpg(self.pid, signal.SIGKILL)
+        if self.status is None:
+            self.status = os.waitpid(self.pid, 0)[1]
 
     def signal(self, number):
         """Sends it a signal, with all that it began."""
-        os.killpg(self.process.pid, number)
+        os.killpg(self.pid, number)
 
 
 class Cluster:
@@ -166,8 +192,7 @@ class Cluster:
         """Starts a part of the engine."""
         folder = self.folder / name
         folder.mkdir(exist_ok=True)
-        words = [sys.executable, "-B", "-m", f"distributed.cli.{module}", *words]
-        self.processes[name] = Process(words, self.folder / f"{name}.log", folder, **environment)
+        self.processes[name] = Process(f"distributed.cli.{module}", list(words), str(self.folder / f"{name}.log"), folder, **environment)
 
     def start_worker(self, name, with_btfleet=True, allowed=(), given=None, machine=None, changed="", more=("--no-nanny",)):
         """Starts a worker with two runs at a time: with a name that is given to it, where that is not empty, and on a machine. What its host allows are
@@ -182,11 +207,12 @@ class Cluster:
         """Waits until a process has written what a pattern fits, and gives its group."""
         until = time.monotonic() + START_SECONDS
         while time.monotonic() < until:
-            text = (self.folder / f"{name}.log").read_text(errors="replace")
+            log = self.folder / f"{name}.log"
+            text = log.read_text(errors="replace") if log.is_file() else ""
             found = re.search(pattern, text)
             if found:
                 return found[1]
-            if self.processes[name].process.poll() is not None:
+            if not self.processes[name].is_there():
                 break
             time.sleep(0.05)
         raise AssertionError(f"{name} did not come up:\n{text}")
@@ -201,7 +227,7 @@ class Cluster:
         for name in [name for name in self.processes if name not in ("scheduler", *names)]:
             self.kill(name)
         for name in names:
-            if name in self.processes and self.processes[name].process.poll() is None:
+            if name in self.processes and self.processes[name].is_there():
                 self.processes[name].signal(signal.SIGCONT)
             else:
                 self.start_worker(name)

@@ -10,7 +10,7 @@ import threading
 import time
 import unittest
 
-from fleet_hosts import COMMAND_SECONDS, WITHOUT_DASK, WORKERS, Process, WithCluster, WithFolder, count_line, has_dask, printf_line
+from fleet_hosts import COMMAND_SECONDS, WITHOUT_DASK, WORKERS, WithCluster, WithFolder, count_line, has_dask, printf_line
 
 # What a worker answers in the place of an answer, and how that is told.
 EVIL = {"lambda *_: asyncio.sleep(0, {'a': 1})": "what came is no message, but dict",
@@ -182,12 +182,11 @@ class WithoutItsScheduler(WithFolder):
             self.skipTest(WITHOUT_DASK)
         mark = self.installed.folder / "mark"
         for number in range(3):
-            process = Process([sys.executable, "-B", "-c", EVIL_SCHEDULER, str(number), str(mark)], self.installed.folder / "evil.log", self.installed.folder)
+            words = [sys.executable, "-B", "-c", EVIL_SCHEDULER, str(number), str(mark)]
+            process = subprocess.Popen(words, stdout=subprocess.PIPE)
+            self.addCleanup(process.communicate)
             self.addCleanup(process.kill)
-            until = time.monotonic() + COMMAND_SECONDS
-            while not re.search("tcp://", (self.installed.folder / "evil.log").read_text()) and time.monotonic() < until:
-                time.sleep(0.05)
-            address = (self.installed.folder / "evil.log").read_text().split()[0]
+            address = process.stdout.readline().decode().strip()
             came = self.installed.run("run", self.script, "/x.btr", "--scheduler", address)
             with self.subTest(number):
                 self.assertEqual(came[:2], (8, b""))
@@ -197,7 +196,6 @@ class WithoutItsScheduler(WithFolder):
             with self.subTest((number, "by Dask itself")):
                 self.assertTrue(mark.exists())
             mark.unlink()
-            process.kill()
 
 
 class OnAScheduler(WithCluster):
@@ -463,7 +461,7 @@ class OnAScheduler(WithCluster):
 
     def test_which_addresses_are_listened_on(self):
         """The scheduler and the workers, started as the page says, listen on the loopback alone; the command by itself on none."""
-        found = {address for process in self.cluster.processes.values() for address in listening(process.process.pid)}
+        found = {address for process in self.cluster.processes.values() for address in listening(process.pid)}
         self.assertGreaterEqual(len(found), 4)
         self.assertEqual({address for address in found if not address.startswith("127.0.0.1:")}, set())
         slow = self.installed.recording("slow.btr", [calls(2)], "sleep 2")
