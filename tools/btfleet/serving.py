@@ -73,6 +73,14 @@ def in_a_thread(does, loop):
     return found
 
 
+def told_of(path, folders):
+    """The recording at a path as fields of a message, or why there is none."""
+    try:
+        return look(path, folders).fields()
+    except NoRecording as fault:
+        return {"fault": str(fault)}
+
+
 def checked(fields, name, kind):
     """A field of a message; Unreadable where it is of another kind."""
     if type(fields.get(name)) is not kind:
@@ -124,20 +132,22 @@ class Host:
             future.exception()
 
     async def look_at(self, path):
-        """A recording as fields of a message, or why there is none."""
+        """A recording as fields of a message, or why there is none, in a thread for this one alone."""
         async with self.looks:
             try:
-                found = await self.timed(lambda: look(path, self.allowed.folders), LOOK_SECONDS)
-                return found.fields()
-            except (NoRecording, Hung) as fault:
+                return await self.timed(lambda: told_of(path, self.allowed.folders), LOOK_SECONDS)
+            except Hung as fault:
                 return {"fault": str(fault)}
 
     async def look(self, fields, _):
-        """What lies at paths, and the version of the program."""
+        """What lies at paths, and the version of the program. One thread looks at all; where it hangs, one for each."""
         paths = checked(fields, "paths", list)
         if len(paths) > MOST_PATHS or not all(isinstance(path, str) and path.startswith("/") for path in paths):
             raise Unreadable("paths are lacking")
-        found = await asyncio.gather(*map(self.look_at, paths))
+        try:
+            found = await self.timed(lambda: [told_of(path, self.allowed.folders) for path in paths], LOOK_SECONDS)
+        except Hung:
+            found = await asyncio.gather(*map(self.look_at, paths))
         return coded({"found": dict(zip(paths, found)), "program": await self.version(fields.get("unproved") is True)})
 
     async def version(self, is_unproved):

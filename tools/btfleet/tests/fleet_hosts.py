@@ -141,7 +141,7 @@ class Process:
                 os._exit(1)
 
     def become(self, module, words, log, folder, environment):
-        """What the forked process does."""
+        """What the forked process does. The tools that it finds are those of its preload."""
         os.setsid()
         os.chdir(folder)
         os.environ.update(environment)
@@ -149,6 +149,9 @@ class Process:
             os.dup2(os.open(name, flags, 0o644), number)
         signal.signal(signal.SIGINT, signal.default_int_handler)
         signal.alarm(MOST_SECONDS)
+        for name in [name for name in sys.modules if name.partition(".")[0] in ("btfleet", "btreplay", "reckoning")]:
+            del sys.modules[name]
+        sys.path[:] = [path for path in sys.path if path != str(TOOLS)]
         sys.argv = [module, *words]
         importlib.import_module(module).main(words)
 
