@@ -114,7 +114,8 @@ class Link:
         try:
             return await self.workers()
         except Gone as fault:
-            raise Refused(f"{self.address}: no scheduler answers there within {CONNECT_SECONDS} seconds: {fault}", ENGINE) from fault
+            hint = ", as where it refuses a certificate" if self.address.startswith("tls://") else ", as one with certificates, whose address begins with tls://"
+            raise Refused(f"{self.address}: no scheduler answers there within {CONNECT_SECONDS} seconds: {fault}{hint}", ENGINE) from fault
 
     async def workers(self):
         """What the scheduler knows of each worker, by their addresses; Gone where it does not answer."""
