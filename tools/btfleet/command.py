@@ -11,7 +11,7 @@ from btfleet.faults import ENGINE, MEMORY, READ, SCRIPT, WORDS, WRITE, Refused
 from btfleet.fleet import Fleet, Question
 from btfleet.here import Here, placed_here
 from btfleet.hosts import PRELOAD, hosts_of
-from btfleet.operands import operands
+from btfleet.operands import EACH, operands
 from btfleet.placing import expected, placed, wanted_of
 from btfleet.plan import Fault, plan_of, told_fault
 from btfleet.printing import printed
@@ -128,8 +128,9 @@ async def ask_hosts(asked, question, operands_named, result, progress):
     async with connected(asked.scheduler) as (link, known):
         if not known:
             raise Refused(f"the scheduler has no workers: dask-worker ADDRESS {PRELOAD} starts one", ENGINE)
+        named_hosts = {operand.host for operand in operands_named}
         tell([f"the scheduler refused a worker named {name} at {when}, since another one has this name: it is not asked"
-              for name, when in (await link.taken_names()).items()])
+              for name, when in (await link.taken_names()).items() if named_hosts & {name, EACH}])
         hosts = hosts_of(known)
         wanted = wanted_of(operands_named, hosts)
         seen = await survey(link, wanted, asked.unproved, progress)

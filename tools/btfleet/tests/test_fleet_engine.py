@@ -160,7 +160,7 @@ class OnThisMachine(WithFolder):
                                                           r"btfleet: the result has 3 of 3")
 
 
-class WithoutItsScheduler(WithFolder):
+class OnOneOfItsOwn(WithFolder):
     def test_a_scheduler_that_dies(self):
         """Rows that were answered stay, and the rest is told as lost with it."""
         cluster = self.cluster("web1")
@@ -175,6 +175,27 @@ class WithoutItsScheduler(WithFolder):
             printed, told = process.communicate(timeout=COMMAND_SECONDS)
         self.assertEqual((process.returncode, printed), (7, b"@calls[a]: 1\n@calls[b]: 1\n\n"))
         self.assertRegex(told.decode(), f"btfleet: {slow}: the scheduler is gone: ")
+
+    def test_two_machines_of_one_name(self):
+        """Cloned machines whose workers have no names: what names both is refused with both. A name that is taken is told."""
+        cluster = self.cluster("web1")
+        for machine in ("one", "other"):
+            cluster.start_worker(machine, given="")
+            cluster.wait_for(machine, "(Registered to)")
+        cluster.start_worker("again", given="web1")
+        cluster.wait_for("again", "(name taken)")
+        for number, name in enumerate(("one", "other", "web1")):
+            self.installed.recording(f"{name}/one.btr", [calls(number)])
+        one, at = f"{cluster.own}one.btr", ["--scheduler", cluster.address]
+        taken = "btfleet: the scheduler refused a worker named web1 at [0-9:]{8}, since another one has this name: it is not asked\n"
+        for word in ("vm", "*"):
+            status, printed, told = self.installed.run("run", self.script, f"{word}:{one}", *at)
+            self.assertEqual((status, printed), (1, b""))
+            self.assertRegex(told, f"^({taken})?" + r"btfleet: vm is tcp://\S+ \(machine machine-, boot boot-o\w+\) and tcp://\S+ \(machine machine-, boot boot-o\w+\), "
+                                                    r"which are not one host: start their workers with names of their own \(--name\)\n$")
+        status, printed, told = self.installed.run("run", self.script, f"web1:{one}", *at)
+        self.assertEqual((status, printed), (0, b"@calls[b]: 1\n@calls[a]: 2\n\n"))
+        self.assertRegex(told, f"^{taken}{result(1, 1)}$")
 
     def test_a_scheduler_that_was_taken_over(self):
         """What it sends is not unpickled; the same is unpickled where Dask's own way of reading is taken."""
@@ -243,28 +264,11 @@ class OnAScheduler(WithCluster):
         """As --nworkers starts them: their machine is one host, and its recording is in the result once."""
         self.cluster.start_worker("web5", more=("--nworkers", "2"))
         self.cluster.wait_for("web5", "(?s)(Registered to.*Registered to)")
-        one = self.own({"web1": [calls(1)], "web5": [calls(2)]})
-        status, printed, told = self.installed.run("run", self.script, f"*:{one}", "--by-host", *self.at)
-        self.assertEqual((status, printed.decode()), (0, "@calls[web1, a]: 1\n@calls[web1, b]: 1\n@calls[web5, b]: 1\n@calls[web5, a]: 2\n\n"))
-        self.assertEqual(told, result(2, 2))
-        self.assertEqual(len(self.installed.runs()), 2)
-
-    def test_two_machines_of_one_name(self):
-        """Cloned machines whose workers have no names: what names both is refused with both. A name that is taken is told."""
-        for machine in ("one", "other"):
-            self.cluster.start_worker(machine, given="")
-            self.cluster.wait_for(machine, "(Registered to)")
-        self.cluster.start_worker("again", given="web1")
-        self.cluster.wait_for("again", "(name taken)")
-        one = self.own({"one": [calls(1)], "other": [calls(2)], "web1": [calls(3)]})
-        for word in ("vm", "*"):
-            status, printed, told = self.installed.run("run", self.script, f"{word}:{one}", *self.at)
-            self.assertEqual((status, printed), (1, b""))
-            self.assertRegex(told, r"btfleet: vm is tcp://\S+ \(machine machine-, boot boot-on\w*\) and tcp://\S+ \(machine machine-, boot boot-ot\w*\), "
-                                   r"which are not one host|btfleet: vm is .* and .* and .*, which are not one host")
-        status, printed, told = self.installed.run("run", self.script, f"web1:{one}", *self.at)
-        self.assertEqual((status, printed), (0, b"@calls[b]: 1\n@calls[a]: 3\n\n"))
-        self.assertRegex(told, "^btfleet: the scheduler refused a worker named web1 at [0-9:]{8}, since another one has this name: it is not asked\n")
+        numbers = {"web1": 1, "web2": 2, "web3": 3, "web5": 5}
+        one = self.own({name: [count_line("@calls", [(("x",), number)])] for name, number in numbers.items()})
+        self.assertEqual(self.installed.run("run", self.script, f"*:{one}", "--by-host", *self.at),
+                         (0, "".join(f"@calls[{name}, x]: {number}\n" for name, number in numbers.items()).encode() + b"\n", result(4, 4)))
+        self.assertEqual(len(self.installed.runs()), 4)
 
     def test_a_host_that_hangs(self):
         """It is one of those asked, by its name, and a failure; what does not ask it is not held up."""
@@ -294,12 +298,14 @@ class OnAScheduler(WithCluster):
 
     def test_what_is_no_file_blocks_nobody(self):
         """A pipe is not opened: it is a failure, and the hosts answer others."""
-        for host in ("web1", "web2"):
-            os.mkfifo(self.installed.folder / host / "pipe")
-        one = self.own({"web1": [calls(1)], "web2": [calls(2)]})
+        for host in WORKERS:
+            pipe = self.installed.folder / host / "pipe"
+            os.mkfifo(pipe)
+            self.addCleanup(pipe.unlink)
+        one = self.own({name: [calls(number)] for number, name in enumerate(WORKERS)})
         pipe = f"{self.cluster.own}pipe"
         self.assertEqual(self.installed.run("run", self.script, f"*:{pipe}", *self.at),
-                         (3, b"", "".join(f"btfleet: {host}:{pipe}: it is no regular file there\n" for host in ("web1", "web2")) + result(0, 2)))
+                         (3, b"", "".join(f"btfleet: {host}:{pipe}: it is no regular file there\n" for host in WORKERS) + result(0, 3)))
         self.assertEqual(self.installed.run("run", self.script, f"*:{one}", *self.at)[0], 0)
 
     def test_one_damaged_among_fifty(self):
@@ -451,13 +457,13 @@ class OnAScheduler(WithCluster):
         hosts = self.installed.write("hosts", "web1\nweb2 # the other\n\nweb7\n")
         status, printed, told = self.installed.run("run", self.script, f"*:{one}", "--hosts", hosts, "--json", *self.at)
         self.assertEqual((status, told.splitlines()), (7, [f"btfleet: web2:{one}: there is no such file there that can be read",
-                                                           f"btfleet: web7:{one}: no worker is on a host of this name", result(1, 3).strip()]))
+                                                           f"btfleet: web7:{one}: no worker is on a host of this name", result(2, 4).strip()]))
         self.assertEqual([json.loads(line) for line in printed.splitlines()[1:]],
                          [{"cause": "there is no such file there that can be read", "host": "web2", "recording": f"web2:{one}", "type": "failure"},
                           {"cause": "no worker is on a host of this name", "host": "web7", "recording": f"web7:{one}", "type": "failure"}])
-        self.assertEqual(self.installed.run("run", self.script, f"*:{one}", "--least", "1", *self.at)[:2], (7, b"@calls[a]: 1\n@calls[b]: 1\n\n"))
-        status, printed, told = self.installed.run("run", self.script, f"*:{one}", "--least", "2", *self.at)
-        self.assertEqual((status, printed, told.splitlines()[-1]), (3, b"", "btfleet: the result has 1 of 2 recordings, fewer than the 2 that are wanted"))
+        self.assertEqual(self.installed.run("run", self.script, f"*:{one}", "--least", "2", *self.at)[:2], (7, b"@calls[b]: 2\n@calls[a]: 5\n\n"))
+        status, printed, told = self.installed.run("run", self.script, f"*:{one}", "--least", "3", *self.at)
+        self.assertEqual((status, printed, told.splitlines()[-1]), (3, b"", "btfleet: the result has 2 of 3 recordings, fewer than the 3 that are wanted"))
 
     def test_which_addresses_are_listened_on(self):
         """The scheduler and the workers, started as the page says, listen on the loopback alone; the command by itself on none."""
