@@ -23,6 +23,7 @@ END_SECONDS = 3
 MOST_DEATHS = 4
 STATES = ("waiting", "running", "silent")
 GONE = "the scheduler is gone"
+KILLED = ", and processes were killed there for want of memory meanwhile"
 DIED, LEFT = "each worker that was asked died of it", "no worker that holds it is there any more"
 
 
@@ -59,7 +60,7 @@ class Fleet:
         self.link, self.question, self.progress = link, question, progress
         self.left, self.queues = {}, collections.defaultdict(collections.deque)
         self.came, self.has_come, self.slots, self.runs, self.live = collections.deque(), asyncio.Event(), {}, {}, {}
-        self.gone = None
+        self.gone, self.killed, self.short = None, {}, set()
 
     async def answers(self, all_asked, known):
         """Asks all, and yields each recording with what it answers, or why it does not, as these come; and nothing where a while went by."""
@@ -94,6 +95,7 @@ class Fleet:
         hosts = hosts_of(known)
         self.live = {host.place(): [worker.address for worker in host.workers] for host in hosts}
         for host in hosts:
+            self.note_killed(host, known)
             if not self.queues.get(host.place()):
                 continue
             for worker in host.workers:
@@ -101,6 +103,14 @@ class Fleet:
                 tasks[:] = [task for task in tasks if not task.done()]
                 room = min(worker.threads, len(self.queues[host.place()])) - len(tasks)
                 tasks += [asyncio.ensure_future(self.slot(worker, host)) for _ in range(room)]
+
+    def note_killed(self, host, known):
+        """Notes whether processes were killed on a host for want of memory since it was first seen, by what its workers tell when they are started."""
+        for worker in host.workers:
+            count = known[worker.address].get("btfleet")
+            count = count.get("killed_for_memory") if isinstance(count, dict) else None
+            if type(count) is int and count > self.killed.setdefault(host.place(), count):
+                self.short.add(host.place())
 
     def next_for(self, worker, host):
         """The next recording that a worker is asked; none where there is none."""
@@ -139,7 +149,7 @@ class Fleet:
         waits.is_out, waits.why = False, why
         waits.tried.update({worker.address} if worker else ())
         if waits.deaths >= MOST_DEATHS:
-            self.settle(waits, Unasked(DIED))
+            self.settle(waits, Unasked(DIED + (KILLED if self.short & set(waits.asked.holders) else "")))
         elif waits.asked.place in self.left:
             for place in waits.asked.holders:
                 if waits not in self.queues[place]:

@@ -2,7 +2,9 @@
 import os
 import pathlib
 import tempfile
+import time
 import unittest
+import unittest.mock
 
 import fleet_hosts  # noqa: F401  (it finds btfleet)
 
@@ -14,8 +16,8 @@ from btfleet.placing import expected, placed, wanted_of
 from btfleet.recording import NoRecording, Recording, look
 from btfleet.result import Result
 from btfleet.plan import plan_of
-from btfleet.child import Ended
-from btfleet.fleet import Unasked
+from btfleet.child import Child, Ended, Limits
+from btfleet.fleet import Fleet, Unasked, Waits
 from btfleet.survey import Seen, seen_of
 from btfleet.wire import FORM, Unreadable, coded, read
 
@@ -160,6 +162,51 @@ class OnThisMachine(unittest.TestCase):
         os.utime(other, ns=(before.written, before.written))
         os.replace(other, self.one)
         self.assertNotEqual(look(self.one), before)
+
+
+class WantOfMemory(unittest.TestCase):
+    def test_a_run(self):
+        """A run that the kernel killed is told as that; one that another one killed is not."""
+        for counts, why in (([4, 5], "its run was killed for want of memory"), ([4, 4], "")):
+            with self.subTest(counts), unittest.mock.patch("btfleet.child.killed_for_memory", side_effect=counts):
+                ended = Child(["sh", "-c", "kill -9 $$"], Limits()).ended()
+                self.assertEqual((ended.status, ended.why), (-9, why))
+
+    def test_workers(self):
+        """Where a host's new worker tells of more processes that were killed, that is told of what its workers died of."""
+        for counts, why in ((("5", "5"), ""), ((5, 5), ""), ((5, 6), ", and processes were killed there for want of memory meanwhile")):
+            with self.subTest(counts):
+                ended = Fleet(None, None, None)
+                asked = placed_here(operands(["/none"], False))[0]
+                for address, count in zip(("tcp://1", "tcp://2"), counts):
+                    info = known("web1", "boot")
+                    info["btfleet"]["killed_for_memory"] = count
+                    host, = hosts_of({address: info})
+                    ended.employ({address: info})
+                asked.holders = [host.place()]
+                ended.left[0] = waits = Waits(asked, deaths=4)
+                ended.again(waits, host.workers[0], "")
+                (_, found), = ended.came
+                self.assertEqual(str(found), f"each worker that was asked died of it{why}")
+
+
+class Limited(unittest.TestCase):
+    def test_what_a_run_may_take(self):
+        """Memory, time, and what it prints; a child of it is ended with it."""
+        started = time.monotonic()
+        ended = Child(["sh", "-c", "sleep 50 & sleep 50"], Limits(seconds=0.5)).ended()
+        self.assertEqual((ended.status, ended.why), (-9, "its run took more than 0.5 seconds"))
+        self.assertLess(time.monotonic() - started, 40)
+        ended = Child(["sh", "-c", "while :; do echo 0123456789; done"], Limits(printed=1000)).ended()
+        self.assertEqual((ended.status, ended.why, len(ended.printed)), (-9, "it printed more than 1,000 bytes", 1000))
+        ended = Child(["sh", "-c", "sleep 0.2; ulimit -v; echo told >&2"], Limits(memory=1 << 30)).ended()
+        self.assertEqual((ended.status, ended.printed, ended.told, ended.why), (0, b"1048576\n", b"told\n", ""))
+
+    def test_one_that_is_ended(self):
+        """Before it begins nothing is run."""
+        child = Child(["sh", "-c", "echo x"], Limits())
+        child.end("it is over")
+        self.assertEqual((child.ended().why, child.process), ("it is over", None))
 
 
 class Messages(unittest.TestCase):
