@@ -61,6 +61,7 @@ class Fleet:
         self.left, self.queues = {}, collections.defaultdict(collections.deque)
         self.came, self.has_come, self.slots, self.runs, self.live = collections.deque(), asyncio.Event(), {}, {}, {}
         self.gone, self.killed, self.short = None, {}, set()
+        self.left_text = LEFT
 
     async def answers(self, all_asked, known):
         """Asks all, and yields each recording with what it answers, or why it does not, as these come; and nothing where a while went by."""
@@ -93,13 +94,13 @@ class Fleet:
     def employ(self, known):
         """Lets each worker that holds what is left ask, as many at a time as it does runs."""
         hosts = hosts_of(known)
-        self.live = {host.place(): [worker.address for worker in host.workers] for host in hosts}
+        self.live = {host.place(): [worker.key for worker in host.workers] for host in hosts}
         for host in hosts:
             self.note_killed(host, known)
             if not self.queues.get(host.place()):
                 continue
             for worker in host.workers:
-                tasks = self.slots.setdefault(worker.address, [])
+                tasks = self.slots.setdefault(worker.key, [])
                 tasks[:] = [task for task in tasks if not task.done()]
                 room = min(worker.threads, len(self.queues[host.place()])) - len(tasks)
                 tasks += [asyncio.ensure_future(self.slot(worker, host)) for _ in range(room)]
@@ -118,7 +119,7 @@ class Fleet:
         for _ in range(len(queue)):
             waits = queue.popleft()
             if waits.asked.place in self.left and not waits.is_out:
-                if worker.address not in waits.tried:
+                if worker.key not in waits.tried:
                     return waits
                 queue.append(waits)
         return None
@@ -147,7 +148,7 @@ class Fleet:
     def again(self, waits, worker, why):
         """Lets a recording be asked of another worker, and tells that it cannot where four have died of it."""
         waits.is_out, waits.why = False, why
-        waits.tried.update({worker.address} if worker else ())
+        waits.tried.update({worker.key} if worker else ())
         if waits.deaths >= MOST_DEATHS:
             self.settle(waits, Unasked(DIED + (KILLED if self.short & set(waits.asked.holders) else "")))
         elif waits.asked.place in self.left:
@@ -196,10 +197,12 @@ class Fleet:
                 self.gone = None
             except Gone as fault:
                 known, self.gone = {}, f"{GONE}: {fault}"
-            for address in [address for address in self.slots if address not in known]:
-                for task in self.slots.pop(address):
-                    task.cancel()
+                self.left_text = f"{GONE}, another one answers, and {LEFT}"
             self.employ(known)
+            live = {key for keys in self.live.values() for key in keys}
+            for key in [key for key in self.slots if key not in live]:
+                for task in self.slots.pop(key):
+                    task.cancel()
             self.give_up(time.monotonic())
 
     def give_up(self, now):
@@ -210,11 +213,11 @@ class Fleet:
                 continue
             waits.since = waits.since or now
             if now - waits.since >= (GRACE_SECONDS if waits.why == LEFT else 0):
-                self.settle(waits, Unasked(self.gone or waits.why))
+                self.settle(waits, Unasked(self.gone or (self.left_text if waits.why == LEFT else waits.why)))
 
     def can_be_asked(self, waits):
         """Whether a worker is there that holds a recording, and was not asked before."""
-        return any(address not in waits.tried for place in waits.asked.holders for address in self.live.get(place, ()))
+        return any(key not in waits.tried for place in waits.asked.holders for key in self.live.get(place, ()))
 
     async def end(self):
         """Ends all that is asked: here, and on the hosts."""

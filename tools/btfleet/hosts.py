@@ -14,7 +14,7 @@ COUNTED = re.compile(r"(.+)-\d+")
 @dataclass
 class Worker:
     """A worker: its address, the name that was given to it, if one was, the address of its machine, the machine, if it knows btfleet, how many runs it
-    does at a time, and the form of its messages."""
+    does at a time, the form of its messages, and what tells it from one that had its address before."""
 
     address: str
     given: str
@@ -22,6 +22,12 @@ class Worker:
     machine: object
     threads: int
     form: int
+    start: str = ""
+
+    @property
+    def key(self):
+        """What no other worker has, also where it is started anew at one address."""
+        return self.address, self.start
 
     def place(self):
         """What it has alike with the workers for which each path is the same file."""
@@ -52,7 +58,7 @@ def worker_of(address, info):
     known = known if isinstance(known, dict) else {}
     threads = info.get("nthreads")
     return Worker(address, "" if "://" in name or name.isdigit() else name, str(info.get("host", "")), machine_of(known.get("machine")),
-                  threads if type(threads) is int and threads > 0 else 1, known.get("form"))
+                  threads if type(threads) is int and threads > 0 else 1, known.get("form"), str(known.get("start", "")))
 
 
 def name_of(workers):

@@ -8,6 +8,7 @@ import getpass
 import logging
 import threading
 import time
+import uuid
 from dataclasses import dataclass, field
 
 from btfleet.asking import Question, Run, version
@@ -94,12 +95,12 @@ class Host:
     def __init__(self, allowed, count):
         self.allowed, self.room = allowed, asyncio.Semaphore(count)
         self.looks, self.runs, self.hung = asyncio.Semaphore(LOOKS_AT_A_TIME), {}, 0
-        self.machine, self.began = this_machine(), killed_for_memory()
+        self.machine, self.start, self.began = this_machine(), uuid.uuid4().hex, killed_for_memory()
         self.does = {"look": self.look, "ask": self.ask, "wait": self.wait, "end": self.end}
 
     def known(self, _worker=None):
         """What the scheduler is told of this worker when it registers."""
-        return {"form": FORM, "machine": self.machine.fields(), "killed_for_memory": self.began}
+        return {"form": FORM, "machine": self.machine.fields(), "start": self.start, "killed_for_memory": self.began}
 
     async def answer(self, message):
         """Answers a message by one; what is wrong with it is its answer."""

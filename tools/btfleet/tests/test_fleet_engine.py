@@ -4,9 +4,9 @@ import os
 import pathlib
 import re
 import signal
+import socket
 import subprocess
 import sys
-import threading
 import time
 import unittest
 
@@ -345,21 +345,23 @@ class OnAScheduler(WithCluster):
         self.assertEqual(told.decode(), f"btfleet: web2:{slow}: no worker that holds it is there any more\n{result(1, 2)}")
 
     def test_a_worker_that_is_started_anew(self):
-        """As its nanny does: it has another address then, and is asked again."""
-        slow = self.installed.recording("1.btr", [calls(2)], '[ "$(wc -l <"$(dirname "$0")/runs")" -gt 1 ] || sleep 30')
-
-        def start_anew():
-            until = time.monotonic() + COMMAND_SECONDS
-            while not self.installed.runs() and time.monotonic() < until:
-                time.sleep(0.05)
-            self.cluster.kill("web1")
-            self.cluster.start_worker("web1")
-
-        starter = threading.Thread(target=start_anew)
-        starter.start()
-        came = self.installed.run("run", self.script, f"web1:{slow}", *self.at)
-        starter.join()
-        self.assertEqual(came, (0, b"@calls[b]: 1\n@calls[a]: 2\n\n", result(1, 1)))
+        """At another address, and at the same one, where its port is fixed: it is asked again."""
+        with socket.create_server(("127.0.0.1", 0)) as free:
+            port = ["--no-nanny", "--worker-port", str(free.getsockname()[1])]
+        for number, more in enumerate((["--no-nanny"], port)):
+            with self.subTest(more):
+                self.cluster.kill("web1")
+                self.cluster.start_worker("web1", more=more)
+                self.cluster.wait_for("web1", "(Registered to)")
+                self.installed.write("lib/runs", "")
+                slow = self.installed.recording(f"{number}.btr", [calls(2)], '[ "$(wc -l <"$(dirname "$0")/runs")" -gt 1 ] || sleep 30')
+                with subprocess.Popen(self.installed.words(["run", self.script, f"web1:{slow}", *self.at]), stdout=subprocess.PIPE, stderr=subprocess.PIPE) as process:
+                    self.wait_for_runs(1)
+                    self.cluster.kill("web1")
+                    self.cluster.start_worker("web1", more=more)
+                    printed, told = process.communicate(timeout=COMMAND_SECONDS)
+                self.assertEqual((process.returncode, printed), (0, b"@calls[b]: 1\n@calls[a]: 2\n\n"))
+                self.assertEqual(told.decode().splitlines()[-1], result(1, 1).strip())
 
     def test_no_code_is_sent(self):
         """A worker that was not told where btfleet is cannot be asked, so what runs there is its own."""
