@@ -114,7 +114,8 @@ class Link:
         try:
             return await self.workers()
         except Gone as fault:
-            hint = ", as where it refuses a certificate" if self.address.startswith("tls://") else ", as one with certificates, whose address begins with tls://"
+            is_tls = self.address.startswith("tls://")
+            hint = ", as where it refuses a certificate" if is_tls else ", as one with certificates, whose address begins with tls://"
             raise Refused(f"{self.address}: no scheduler answers there within {CONNECT_SECONDS} seconds: {fault}{hint}", ENGINE) from fault
 
     async def workers(self):

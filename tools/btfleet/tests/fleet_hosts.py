@@ -128,8 +128,8 @@ class Installed:
 
 
 class Process:
-    """A process in a session of its own, with all that it begins, which runs a command of the engine. It ends by itself after some time. It is forked, so that the
-    engine is imported once for all."""
+    """A process in a session of its own, with all that it begins, which runs a command of the engine. It ends by itself after some time. It is forked, so
+    that the engine is imported once for all."""
 
     def __init__(self, module, words, log, folder, **environment):
         self.status = None

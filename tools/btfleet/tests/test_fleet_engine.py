@@ -191,8 +191,8 @@ class OnOneOfItsOwn(WithFolder):
         for word in ("vm", "*"):
             status, printed, told = self.installed.run("run", self.script, f"{word}:{one}", *at)
             self.assertEqual((status, printed), (1, b""))
-            self.assertRegex(told, f"^({taken})?" + r"btfleet: vm is tcp://\S+ \(machine machine-, boot boot-o\w+\) and tcp://\S+ \(machine machine-, boot boot-o\w+\), "
-                                                    r"which are not one host: start their workers with names of their own \(--name\)\n$")
+            machine = r"tcp://\S+ \(machine machine-, boot boot-o\w+\)"
+            self.assertRegex(told, f"^({taken})?btfleet: vm is {machine} and {machine}, " + r"which are not one host: start their workers with names of their own \(--name\)\n$")
         status, printed, told = self.installed.run("run", self.script, f"web1:{one}", *at)
         self.assertEqual((status, printed), (0, b"@calls[b]: 1\n@calls[a]: 2\n\n"))
         self.assertRegex(told, f"^{taken}{result(1, 1)}$")
@@ -355,7 +355,8 @@ class OnAScheduler(WithCluster):
                 self.cluster.wait_for("web1", "(Registered to)")
                 self.installed.write("lib/runs", "")
                 slow = self.installed.recording(f"{number}.btr", [calls(2)], '[ "$(wc -l <"$(dirname "$0")/runs")" -gt 1 ] || sleep 30')
-                with subprocess.Popen(self.installed.words(["run", self.script, f"web1:{slow}", *self.at]), stdout=subprocess.PIPE, stderr=subprocess.PIPE) as process:
+                words = self.installed.words(["run", self.script, f"web1:{slow}", *self.at])
+                with subprocess.Popen(words, stdout=subprocess.PIPE, stderr=subprocess.PIPE) as process:
                     self.wait_for_runs(1)
                     self.cluster.kill("web1")
                     self.cluster.start_worker("web1", more=more)
@@ -473,7 +474,8 @@ class OnAScheduler(WithCluster):
         self.assertGreaterEqual(len(found), 4)
         self.assertEqual({address for address in found if not address.startswith("127.0.0.1:")}, set())
         slow = self.installed.recording("slow.btr", [calls(2)], "sleep 2")
-        with subprocess.Popen(self.installed.words(["run", self.script, slow]), stdout=subprocess.PIPE, stderr=subprocess.PIPE, start_new_session=True) as alone:
+        words = self.installed.words(["run", self.script, slow])
+        with subprocess.Popen(words, stdout=subprocess.PIPE, stderr=subprocess.PIPE, start_new_session=True) as alone:
             self.wait_for_runs(1)
             self.assertEqual(listening(alone.pid), [])
             alone.communicate(timeout=COMMAND_SECONDS)

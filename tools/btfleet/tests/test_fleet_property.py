@@ -1,8 +1,8 @@
 """A property test of the merge with the built program: recordings are made and cut by their CPUs, and what the parts answer together is what the program
 prints of the whole, to the byte, as text and as JSON lines.
 
-Scripts are made for each recording, of all aggregations that merge, over values of both signs, keys of all kinds, and prints of END. They are the same each time; what a
-failure tells has the script.
+Scripts are made for each recording, of all aggregations that merge, over values of both signs, keys of all kinds, and prints of END. They are the same
+each time; what a failure tells has the script.
 """
 import concurrent.futures
 import os
