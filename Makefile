@@ -33,7 +33,7 @@ install:
 	./btreplay --version >'$(LIB)/version'
 	install -m 755 '$(PROGRAM)' '$(LIB)/bt_program'
 	install -m 755 btreplay '$(LIB)/btreplay'
-	set -e; lib=$$(cd '$(LIB)' && pwd); cd tools; for file in $(LAYOUT) $$(find $(TOOLS) -name '*.py' ! -path '*/tests/*'); do \
+	set -e; lib=$$(cd '$(LIB)' && pwd); cd tools; for file in $(LAYOUT) $$(find $(TOOLS) '(' -name '*.py' -o -name '*.service' ')' ! -path '*/tests/*'); do \
 	    install -D -m 644 "$$file" "$$lib/tools/$$file"; done
 	set -e; for tool in $(TOOLS); do ln -sfn ../lib/btreplay/btreplay '$(BIN)/'"$$tool"; done
 	install -m 644 $(PAGES) '$(MAN)'

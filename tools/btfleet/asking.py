@@ -1,47 +1,52 @@
-"""What is done where a recording is: which recordings are there, and what one answers. A worker finds these functions
-in its own copy of btfleet, so what is sent to it are the script, names and paths. A worker finds this module with the
-folder of btfleet on its path, so nothing of btrecord's is imported here, some of whose modules have the same names.
+"""What is done where a recording is: what one answers to a script. A worker finds this in its own copy of btfleet, so what is sent to it are the script
+and paths. A worker finds this module with the folder of btfleet on its path, so nothing of btrecord's is imported here, some of whose modules have the
+same names.
 """
+import contextlib
 import importlib.util
 import os
-import socket
-import subprocess
-import threading
+from dataclasses import dataclass
 
+from btfleet.child import Child, Ended, Limits
 from btfleet.faults import NONE_IN
+from btfleet.recording import NoRecording, Recording, look
 from btreplay import proved, unproved
 from btreplay.compiled import NotBuilt
 from btreplay.places import TOOLS, is_checkout
 
-# The runs of this process that have not ended.
-running = set()
-lock = threading.Lock()
+REPLACED = "it was replaced or changed since it was looked at"
 
 
 class NoProgram(Exception):
     """Why there is no program to run."""
 
 
-def held(paths):
-    """The name of this machine, and for each path that can be read what tells files apart: the size, when it was
-    written, and its number."""
-    found = {}
-    for path in paths:
-        try:
-            with open(path, "rb") as file:
-                status = os.fstat(file.fileno())
-            found[path] = (status.st_size, status.st_mtime_ns, status.st_ino)
-        except (OSError, ValueError):
-            continue
-    return socket.gethostname(), found
+@dataclass(frozen=True)
+class Question:
+    """What is asked of a recording: the script, the path, the recording as it was looked at, whether the build is taken that is not proved, and the
+    program, where that is known."""
+
+    script: bytes
+    path: str
+    seen: Recording
+    is_unproved: bool = False
+    program: str = ""
 
 
-def program_here():
-    """The path of the proved program of this machine, which a worker does not build."""
-    if is_checkout() and not proved.is_current():
-        raise NoProgram("the program is not proved and built there: ./btreplay big 1 1 does that, and btfleet --unproved "
-                        "does without")
-    return proved.program()
+@contextlib.contextmanager
+def program_for(question):
+    """The path of the program that is run; NoProgram where there is none here, for a worker does not prove one."""
+    if question.program:
+        yield question.program
+    elif question.is_unproved:
+        if not is_checkout():
+            raise NoProgram("the program that is installed there is proved: leave --unproved out")
+        with unproved.build() as built:
+            yield str(built)
+    else:
+        if is_checkout() and not proved.is_current():
+            raise NoProgram("the program is not proved and built there: ./btreplay big 1 1 does that, and btfleet --unproved does without")
+        yield str(proved.program())
 
 
 def what_it_is(path):
@@ -52,49 +57,57 @@ def what_it_is(path):
     return "".join(f"{line}\n" for line in unread.in_place_of_recording(path, unread.begin_of(path))).encode(errors="surrogateescape")
 
 
-def answer_by(program, script, path):
-    """Runs a program over a recording, and gives its status, what it printed, and what it told, with `-` as the
-    script's name."""
-    handle = os.memfd_create("script", 0)
-    with os.fdopen(handle, "wb", buffering=0) as file:
-        file.write(script)
-        name = f"/dev/fd/{handle}"
-        words = [str(program), "run", "--serial", "--json", name, path]
-        child = subprocess.Popen(words, stdin=subprocess.DEVNULL, stdout=subprocess.PIPE, stderr=subprocess.PIPE,
-                                 pass_fds=(handle,))
-        with lock:
-            running.add(child)
+def version(is_unproved):
+    """The version of the program here, in words: with what it was proved, or which sources a build is made from that is not."""
+    if is_unproved and is_checkout():
+        return f"the build that is not proved, of sources {unproved.checksum()[:12]}"
+    return proved.version()
+
+
+class Run:
+    """One question, which is answered in the thread that calls `answer` and can be ended from another one."""
+
+    def __init__(self, question, limits=Limits(), folders=()):
+        self.question, self.limits, self.folders = question, limits, folders
+        self.child, self.why = None, ""
+
+    def end(self, why):
+        """Ends it, for a reason."""
+        self.why = self.why or why
+        if self.child:
+            self.child.end(self.why)
+
+    def is_replaced(self):
+        """Whether the recording is another one than was looked at."""
+        return look(self.question.path, self.folders) != self.question.seen
+
+    def run(self, program):
+        """Runs a program over the recording. The script's name is `-` in what is told."""
+        handle = os.memfd_create("script", 0)
+        with os.fdopen(handle, "wb", buffering=0) as file:
+            file.write(self.question.script)
+            name = f"/dev/fd/{handle}"
+            words = [program, "run", "--serial", "--json", name, self.question.path]
+            self.child = Child(words, self.limits, (handle,))
+            if self.why:
+                self.child.end(self.why)
+            ended = self.child.ended()
+        told = ended.told.replace(f"{name}:".encode(), b"-:")
+        if ended.status == NONE_IN:
+            told += what_it_is(self.question.path)
+        return Ended(ended.status, ended.printed, told, ended.why)
+
+    def answer(self):
+        """How the run ended. Where nothing could be run, or the recording is another one, only why is told."""
         try:
-            printed, told = child.communicate()
-        finally:
-            with lock:
-                running.discard(child)
-    told = told.replace(f"{name}:".encode(), b"-:")
-    return child.returncode, printed, told + what_it_is(path) if child.returncode == NONE_IN else told
-
-
-def end_all():
-    """Ends all runs of this process."""
-    with lock:
-        for child in running:
-            child.kill()
-
-
-def answer(script, path, is_unproved, program=None):
-    """What a recording answers to a script: the status, what was printed and what was told. The status is none where
-    nothing could be run."""
-    try:
-        if program:
-            return answer_by(program, script, path)
-        if not is_unproved:
-            return answer_by(program_here(), script, path)
-        if not is_checkout():
-            return None, b"", b"the program that is installed there is proved: leave --unproved out"
-        with unproved.build() as built:
-            return answer_by(built, script, path)
-    except NoProgram as fault:
-        return None, b"", str(fault).encode()
-    except NotBuilt as fault:
-        return None, b"", b"the program could not be built there: " + str(fault).encode(errors="replace")[-1000:]
-    except OSError as error:
-        return None, b"", f"{error.filename or 'the program'}: {error.strerror}".encode(errors="replace")
+            if self.is_replaced():
+                return Ended(-1, b"", b"", REPLACED)
+            with program_for(self.question) as program:
+                ended = self.run(program)
+            return Ended(-1, b"", b"", REPLACED) if not ended.why and self.is_replaced() else ended
+        except (NoProgram, NoRecording) as fault:
+            return Ended(-1, b"", b"", str(fault))
+        except NotBuilt as fault:
+            return Ended(-1, b"", b"", f"the program could not be built there: {str(fault)[-1000:]}")
+        except OSError as error:
+            return Ended(-1, b"", b"", f"{error.filename or 'the program'}: {error.strerror}")

@@ -19,8 +19,6 @@ def cause_of(status, told, path, shown):
     """The cause in words. The script is called as the words have it, and the recording's own name is left out."""
     text = told.decode(errors="backslashreplace").strip()
     first, *more = text.split("\n")
-    if status is None:
-        return text
     if status < 0:
         return f"its run was ended by {signal_name(-status)}" + (f": {first}" if first else "")
     if status == WORDS and first.startswith("usage: "):

@@ -1,19 +1,24 @@
 """What the words of `btfleet` ask, from the script to the status."""
+import asyncio
 import contextlib
 import os
 import signal
 import socket
 import sys
 
-from btfleet.engine import connected, imported
+from btfleet.asking import version
+from btfleet.engine import connected
 from btfleet.faults import ENGINE, MEMORY, READ, SCRIPT, WORDS, WRITE, Refused
-from btfleet.fleet import Fleet
+from btfleet.fleet import Fleet, Question
+from btfleet.here import Here, placed_here
+from btfleet.hosts import PRELOAD, hosts_of
 from btfleet.operands import EACH, operands
-from btfleet.placing import placed, placed_here, survey
+from btfleet.placing import expected, placed, wanted_of
 from btfleet.plan import Fault, plan_of, told_fault
 from btfleet.printing import printed
-from btfleet.progress import Progress
+from btfleet.progress import Progress, named
 from btfleet.result import Result
+from btfleet.survey import survey
 from btfleet.words import parsed
 from btreplay import proved, unproved
 from btreplay.compiled import NotBuilt
@@ -68,38 +73,89 @@ def plan_or_refused(script, shown):
 
 
 @contextlib.contextmanager
-def how_to_ask(asked):
-    """What is told to those who ask recordings: whether to take the build that is not proved, and on this machine
-    the program, which is built first."""
-    if asked.scheduler:
-        yield asked.unproved, None
-    elif asked.unproved:
+def program_here(asked):
+    """The path of the program of this machine, which is built first where that is wanted."""
+    if asked.unproved:
         with unproved.build() as program:
-            yield True, str(program)
+            yield str(program)
     else:
-        yield False, str(proved.program())
+        yield str(proved.program())
 
 
-def ask(asked, plan, named, shown):
+def hosts_expected(path):
+    """The names of hosts in a file, one in a line; what stands behind # is none."""
+    try:
+        with open(path, encoding="utf-8", errors="surrogateescape") as file:
+            lines = [line.partition("#")[0].strip() for line in file]
+    except OSError as error:
+        raise Refused(f"{path}: {error.strerror}", WORDS) from error
+    return list(dict.fromkeys(line for line in lines if line))
+
+
+def alike_told(found):
+    """What is told of recordings that have all alike but their place: they may be copies of one."""
+    words = {}
+    for asked in found:
+        if asked.seen and asked.seen.size:
+            words.setdefault((asked.seen.size, asked.seen.checksum), []).append(asked.word)
+    return [f"{named(alike)} are alike in size, head and end: a copy is counted as often as it is named" for alike in words.values() if len(alike) > 1]
+
+
+async def gather(source, result, progress):
+    """Takes what recordings answer as it comes."""
+    async for came in source:
+        if came:
+            result.take(*came)
+            progress.answered, progress.failed = progress.answered + 1, len(result.causes)
+        progress.show()
+
+
+async def ask_here(asked, question, named_here, result, progress):
+    """Asks the recordings of this machine."""
+    with program_here(asked) as program:
+        result.asked = placed_here(named_here)
+        progress.count = len(result.asked)
+        tell(alike_told(result.asked))
+        await gather(Here(question, program, progress).answers(result.asked), result, progress)
+
+
+def told_programs(seen, is_unproved):
+    """What is told of hosts whose program is another one than here."""
+    here, others = version(is_unproved), {}
+    for name, found in seen.items():
+        if found.program and found.program != here:
+            others.setdefault(found.program, []).append(name)
+    return [f"{named(sorted(names))}: the program there is another one than here: {program}" for program, names in others.items()]
+
+
+async def ask_hosts(asked, question, operands_named, result, progress):
+    """Asks the recordings of the hosts of a scheduler."""
+    async with connected(asked.scheduler) as (link, known):
+        if not known:
+            raise Refused(f"the scheduler has no workers: dask-worker ADDRESS {PRELOAD} starts one", ENGINE)
+        named_hosts = {operand.host for operand in operands_named}
+        tell([f"the scheduler refused a worker named {name} at {when}, since another one has this name: it is not asked"
+              for name, when in (await link.taken_names()).items() if named_hosts & {name, EACH}])
+        hosts = hosts_of(known)
+        wanted = wanted_of(operands_named, hosts)
+        seen = await survey(link, wanted, asked.unproved, progress)
+        result.asked, notes = placed(operands_named, hosts, seen)
+        expected(result.asked, hosts_expected(asked.hosts) if asked.hosts else [], hosts, operands_named)
+        progress.count = len(result.asked)
+        tell(notes + alike_told(result.asked))
+        tell(told_programs({host.name: seen[host.place()] for host, _ in wanted}, asked.unproved))
+        await gather(Fleet(link, question, progress).answers(result.asked, known), result, progress)
+
+
+def ask(asked, plan, named_all, shown):
     """Asks all recordings, and gives what came of them."""
-    imported()
-    result = Result(plan, asked.by_host, shown)
-    with how_to_ask(asked) as how, connected(asked.scheduler) as client:
-        workers, faults = survey(client, [operand.path for operand in named])
-        tell(faults)
-        if not workers:
-            raise Refused("no worker can be asked", ENGINE)
-        result.asked = placed(named, workers) if asked.scheduler else placed_here(named, workers)
-        fleet, progress = Fleet(client, plan.script.encode("latin-1"), how), Progress(len(result.asked))
-        try:
-            for came in fleet.answers(result.asked):
-                if came:
-                    result.take(*came)
-                    progress.answered, progress.failed = progress.answered + 1, len(result.causes)
-                progress.show()
-        finally:
-            progress.close()
-            fleet.give_up()
+    result, progress = Result(plan, asked.by_host, shown, asked.least), Progress()
+    question = Question(plan.script.encode("latin-1"), asked.unproved, asked.timeout)
+    how = ask_hosts if asked.scheduler else ask_here
+    try:
+        asyncio.run(how(asked, question, named_all, result, progress))
+    finally:
+        progress.close()
     return result
 
 
@@ -128,6 +184,8 @@ def keep_inputs(asked, named):
 
 def run(asked):
     """Asks a script of recordings, and prints what they answer together. It gives the status."""
+    if asked.scheduler == "":
+        raise Refused("--scheduler: an empty word is no address; without --scheduler the recordings are files here", WORDS)
     named = operands(asked.recordings, bool(asked.scheduler))
     keep_inputs(asked, named)
     script, shown = script_of(asked.script)
@@ -135,7 +193,7 @@ def run(asked):
     result = ask(asked, plan, named, shown)
     if result.is_refused():
         tell_alone(sorted(set(result.causes.values())))
-    status = write(printed(result.merged, asked.json))
+    status = 0 if result.is_too_few() else write(printed(result.merged, asked.json, result.failures()))
     tell(result.told())
     return status or result.status()
 

@@ -1,130 +1,239 @@
-"""Asks all recordings, and hands on what each answers as it comes.
+"""Asks the hosts for all recordings, and hands on what each answers as it comes.
 
-The engine takes what a dead worker was asked to another that holds the recording. Where none is left that does, as one
-that is started anew has another address, this looks whether a worker holds it now, and gives up after some seconds.
+What a worker was asked that dies or falls silent is asked of another one that holds the recording. Where there is none, this waits some seconds for one, as
+a nanny starts a worker anew.
 """
 import asyncio
+import collections
 import contextlib
-import queue
 import time
-from concurrent.futures import CancelledError
+import uuid
+from dataclasses import dataclass, field
 
-from btfleet import asking
-from btfleet.faults import ENGINE, Refused
-from btfleet.placing import NOT_THERE, PRELOAD, survey
-from btreplay.refusal import why_unread
+from btfleet.child import Ended
+from btfleet.engine import CONNECT_SECONDS, Gone, Lost, Silent, Unknowing
+from btfleet.hosts import hosts_of
+from btfleet.serving import asker
+from btfleet.wire import Unreadable
 
-TURN_SECONDS = 0.2
 LOOK_SECONDS = 1
 GRACE_SECONDS = 20
-RESULT_SECONDS = 120
+HANG_SECONDS = 30
+END_SECONDS = 3
+MOST_DEATHS = 4
+STATES = ("waiting", "running", "silent")
+GONE = "the scheduler is gone"
+KILLED = ", and processes were killed there for want of memory meanwhile"
+DIED, LEFT = "each worker that was asked died of it", "no worker that holds it is there any more"
 
 
 class Unasked(Exception):
     """Why a recording could not be asked."""
 
 
-def why(fault):
-    """Why a recording could not be asked, by what the engine raises."""
-    if isinstance(fault, ModuleNotFoundError):
-        return f"its worker does not know btfleet: start it with {PRELOAD}"
-    if type(fault).__name__ == "KilledWorker":
-        return "each worker that was asked died of it"
-    if isinstance(fault, asyncio.TimeoutError):
-        return f"its answer did not come within {RESULT_SECONDS} seconds"
-    return f"{type(fault).__name__}: {fault}"
+@dataclass
+class Waits:
+    """A recording that has not answered: how many workers died of it, since when none is there that holds it, whether a worker is asked, and what to tell
+    where none answers it."""
+
+    asked: object
+    deaths: int = 0
+    since: float = None
+    is_out: bool = False
+    why: str = LEFT
+    tried: set = field(default_factory=set)
+
+
+@dataclass
+class Question:
+    """What is asked of all recordings: the script, whether by builds that are not proved, and how many seconds a run may take, if that is said."""
+
+    script: bytes
+    is_unproved: bool = False
+    seconds: float = None
 
 
 class Fleet:
-    """The recordings that are asked and have not answered. `how` is what a worker is told beside the script and the
-    path: whether it takes the build that is not proved, and the program, where that is known."""
+    """The recordings that are asked and have not answered, by the places of the hosts that hold them, and the workers that are asked."""
 
-    def __init__(self, client, script, how):
-        self.client, self.script, self.how = client, script, how
-        self.ended, self.open = queue.Queue(), {}
-        self.next_look = time.monotonic() + LOOK_SECONDS
+    def __init__(self, link, question, progress):
+        self.link, self.question, self.progress = link, question, progress
+        self.left, self.queues = {}, collections.defaultdict(collections.deque)
+        self.came, self.has_come, self.slots, self.runs, self.live = collections.deque(), asyncio.Event(), {}, {}, {}
+        self.gone, self.killed, self.short = None, {}, set()
+        self.left_text = LEFT
 
-    def submit(self, asked):
-        """Asks a recording of one of its holders."""
-        future = self.client.submit(asking.answer, self.script, asked.path, *self.how, workers=asked.holders,
-                                    allow_other_workers=False, pure=False)
-        self.open[future.key] = future, asked
-        future.add_done_callback(self.ended.put)
-
-    def answers(self, all_asked):
-        """Asks all, and yields each recording with what it answers, or why it does not, as these come; and nothing
-        where a while went by."""
+    async def answers(self, all_asked, known):
+        """Asks all, and yields each recording with what it answers, or why it does not, as these come; and nothing where a while went by."""
         for asked in all_asked:
-            if asked.holders:
-                self.submit(asked)
-            else:
-                # The program is named where all is asked on this machine.
-                yield asked, Unasked(why_unread(asked.path) if self.how[1] else NOT_THERE)
-        while self.open:
-            if time.monotonic() >= self.next_look:
-                yield from self.look()
-            try:
-                future = self.ended.get(timeout=TURN_SECONDS)
-            except queue.Empty:
-                yield None
+            if asked.seen is None:
+                yield asked, Unasked(asked.cause)
                 continue
-            if future.key in self.open:
-                yield from self.take(future)
-
-    def take(self, future):
-        """What a recording answers whose run has ended."""
+            waits = self.left[asked.place] = Waits(asked)
+            for place in asked.holders:
+                self.queues[place].append(waits)
+        self.employ(known)
+        watch = asyncio.ensure_future(self.watch())
         try:
-            found = future.result(timeout=RESULT_SECONDS)
-        except CancelledError:
-            self.live()
-            found = Unasked("the engine gave it up")
-        except Exception as fault:
-            if not future.done():
-                # The worker that had the answer is gone: the engine asks another one.
-                future.add_done_callback(self.ended.put)
+            while self.left or self.came:
+                if not self.came:
+                    with contextlib.suppress(asyncio.TimeoutError):
+                        await asyncio.wait_for(self.has_come.wait(), self.progress.TURN)
+                self.has_come.clear()
+                yield self.came.popleft() if self.came else None
+        finally:
+            watch.cancel()
+            await self.end()
+
+    def settle(self, waits, found):
+        """Hands on what came of a recording, once."""
+        if self.left.pop(waits.asked.place, None):
+            self.came.append((waits.asked, found))
+            self.has_come.set()
+
+    def employ(self, known):
+        """Lets each worker that holds what is left ask, as many at a time as it does runs."""
+        hosts = hosts_of(known)
+        self.live = {host.place(): [worker.key for worker in host.workers] for host in hosts}
+        for host in hosts:
+            self.note_killed(host, known)
+            if not self.queues.get(host.place()):
+                continue
+            for worker in host.workers:
+                tasks = self.slots.setdefault(worker.key, [])
+                tasks[:] = [task for task in tasks if not task.done()]
+                room = min(worker.threads, len(self.queues[host.place()])) - len(tasks)
+                tasks += [asyncio.ensure_future(self.slot(worker, host)) for _ in range(room)]
+
+    def note_killed(self, host, known):
+        """Notes whether processes were killed on a host for want of memory since it was first seen, by what its workers tell when they are started."""
+        for worker in host.workers:
+            count = known[worker.address].get("btfleet")
+            count = count.get("killed_for_memory") if isinstance(count, dict) else None
+            if type(count) is int and count > self.killed.setdefault(host.place(), count):
+                self.short.add(host.place())
+
+    def next_for(self, worker, host):
+        """The next recording that a worker is asked; none where there is none."""
+        queue = self.queues[host.place()]
+        for _ in range(len(queue)):
+            waits = queue.popleft()
+            if waits.asked.place in self.left and not waits.is_out:
+                if worker.key not in waits.tried:
+                    return waits
+                queue.append(waits)
+        return None
+
+    async def slot(self, worker, host):
+        """Asks a worker for one recording after the other, for as long as it answers."""
+        waits = self.next_for(worker, host)
+        while waits:
+            waits.is_out, waits.since = True, None
+            try:
+                self.settle(waits, await self.ask(worker, host, waits.asked))
+            except Unreadable as fault:
+                self.settle(waits, Unasked(f"its host answers what is no answer: {fault}"))
+            except (Lost, Unknowing, asyncio.CancelledError):
+                waits.deaths += 1
+                self.again(waits, worker, LEFT)
                 return
-            found = Unasked(why(fault))
-        _, asked = self.open.pop(future.key)
-        yield asked, found
+            except Silent as fault:
+                self.again(waits, worker, f"its host does not answer: {fault}")
+                return
+            except Gone:
+                self.again(waits, None, LEFT)
+                return
+            waits = self.next_for(worker, host)
 
-    def live(self):
-        """The addresses of the workers that are there."""
+    def again(self, waits, worker, why):
+        """Lets a recording be asked of another worker, and tells that it cannot where four have died of it."""
+        waits.is_out, waits.why = False, why
+        waits.tried.update({worker.key} if worker else ())
+        if waits.deaths >= MOST_DEATHS:
+            self.settle(waits, Unasked(DIED + (KILLED if self.short & set(waits.asked.holders) else "")))
+        elif waits.asked.place in self.left:
+            for place in waits.asked.holders:
+                if waits not in self.queues[place]:
+                    self.queues[place].append(waits)
+
+    async def ask(self, worker, host, asked):
+        """What a recording answers, asked of a worker. It raises what the link raises, Silent where the worker is silent for long."""
+        name = uuid.uuid4().hex
+        fields = {"does": "ask", "run": name, "path": asked.path, "seen": asked.seen.fields(), "by": asker(), "unproved": self.question.is_unproved,
+                  "seconds": self.question.seconds}
+        content, heard, began = self.question.script, time.monotonic(), time.monotonic()
+        self.runs[name] = worker.address
         try:
-            if self.client.status == "running":
-                return set(self.client.scheduler_info()["workers"])
-        except Exception as fault:
-            raise Refused(f"the scheduler is gone: {fault}", ENGINE) from fault
-        raise Refused("the scheduler is gone", ENGINE)
+            while True:
+                try:
+                    answer, printed = await self.link.call(worker.address, fields, content, CONNECT_SECONDS)
+                    heard = time.monotonic()
+                except Silent:
+                    self.progress.silent(host.name, time.monotonic() - heard)
+                    if time.monotonic() - heard > HANG_SECONDS:
+                        raise
+                    answer = {"state": "silent"}
+                if answer.get("state") == "ended":
+                    del self.runs[name]
+                    return ended_of(answer, printed)
+                if answer.get("state") == "unknown":
+                    raise Lost("it was started anew")
+                if answer.get("state") not in STATES:
+                    raise Unreadable("it tells no state of a run")
+                self.progress.slow(asked.word, time.monotonic() - began)
+                if answer["state"] != "silent":
+                    fields, content = {"does": "wait", "run": name}, b""
+        except (Lost, Gone):
+            self.runs.pop(name, None)
+            raise
 
-    def look(self):
-        """Looks after recordings none of whose holders is there any more."""
-        live, now = self.live(), time.monotonic()
-        self.next_look = now + LOOK_SECONDS
-        left = [(future, asked) for future, asked in self.open.values() if not live & set(asked.holders)]
-        if left and live:
-            workers, _ = survey(self.client, [asked.path for _, asked in left])
-            left = [pair for pair in left if not self.ask_anew(*pair, workers)]
-        for future, asked in left:
-            asked.since = asked.since or now
-            if now - asked.since > GRACE_SECONDS:
-                del self.open[future.key]
-                future.cancel()
-                yield asked, Unasked("no worker that holds it is there any more")
+    async def watch(self):
+        """Looks each second which workers are there: cancels what is asked of those that are gone, employs those that came, and gives up recordings
+        that none holds any more."""
+        while True:
+            await asyncio.sleep(LOOK_SECONDS)
+            try:
+                known = await self.link.workers()
+                self.gone = None
+            except Gone as fault:
+                known, self.gone = {}, f"{GONE}: {fault}"
+                self.left_text = f"{GONE}, another one answers, and {LEFT}"
+            self.employ(known)
+            live = {key for keys in self.live.values() for key in keys}
+            for key in [key for key in self.slots if key not in live]:
+                for task in self.slots.pop(key):
+                    task.cancel()
+            self.give_up(time.monotonic())
 
-    def ask_anew(self, future, asked, workers):
-        """Asks a recording of the workers of its hosts that hold it now; says whether there are some."""
-        holders = [worker.address for worker in workers if worker.host in asked.hosts and asked.path in worker.held]
-        if holders:
-            del self.open[future.key]
-            future.cancel()
-            asked.holders, asked.since = holders, None
-            self.submit(asked)
-        return bool(holders)
+    def give_up(self, now):
+        """Gives up the recordings that no worker can be asked for, for some seconds; those of silent hosts at once."""
+        for waits in list(self.left.values()):
+            if waits.is_out or self.can_be_asked(waits):
+                waits.since = None
+                continue
+            waits.since = waits.since or now
+            if now - waits.since >= (GRACE_SECONDS if waits.why == LEFT else 0):
+                self.settle(waits, Unasked(self.gone or (self.left_text if waits.why == LEFT else waits.why)))
 
-    def give_up(self):
-        """Gives up what has not answered. Where the scheduler is gone there is nothing to give up."""
-        left = [future for future, _ in self.open.values()]
-        self.open.clear()
-        if left and self.client.status == "running":
-            with contextlib.suppress(Exception):
-                self.client.cancel(left, force=True)
+    def can_be_asked(self, waits):
+        """Whether a worker is there that holds a recording, and was not asked before."""
+        return any(key not in waits.tried for place in waits.asked.holders for key in self.live.get(place, ()))
+
+    async def end(self):
+        """Ends all that is asked: here, and on the hosts."""
+        for task in [task for tasks in self.slots.values() for task in tasks]:
+            task.cancel()
+        left = collections.defaultdict(list)
+        for name, address in self.runs.items():
+            left[address].append(name)
+        with contextlib.suppress(asyncio.TimeoutError):
+            calls = [self.link.call(address, {"does": "end", "runs": names}, seconds=END_SECONDS) for address, names in left.items()]
+            await asyncio.wait_for(asyncio.gather(*calls, return_exceptions=True), END_SECONDS)
+
+
+def ended_of(answer, printed):
+    """How a run ended, by what its host answers; Unreadable where that is no end."""
+    status, told, why = answer.get("status"), answer.get("told"), answer.get("why")
+    if type(status) is not int or not isinstance(told, str) or not isinstance(why, str):
+        raise Unreadable("an end of a run lacks a part")
+    return Ended(status, printed, told.encode("latin-1", "replace"), why)

@@ -1,113 +1,128 @@
-"""Where recordings are: the workers, what each holds, and which of them may be asked for which recording."""
-from dataclasses import dataclass
+"""Where recordings are: which hosts hold what words name, and that each is asked once."""
+from dataclasses import dataclass, field
 
-from btfleet import asking
-from btfleet.faults import ENGINE, WORDS, Refused
+from btfleet.faults import WORDS, Refused
+from btfleet.hosts import each_of, host_named
 from btfleet.operands import EACH
-
-PRELOAD = "--preload tools/btfleet/preload.py"
-UNKNOWN = "No module named 'btfleet"
-NOT_THERE = "there is no such file there that can be read"
-
-
-@dataclass(frozen=True)
-class Worker:
-    """A worker: its address, its host's name as the result has it, all names that words may have for it, and for
-    each path that it holds what tells files apart."""
-
-    address: str
-    host: str
-    names: frozenset
-    held: dict
+from btfleet.progress import named
+from btfleet.recording import NOT_THERE
 
 
 @dataclass
 class Asked:
-    """A recording that is asked: its place in the result, the word for it, its host, its path, and the workers that
-    hold it, as their addresses and hosts. `since` is when none of these was there any more."""
+    """A recording that is asked: its place in the result, the word for it, its host, its path, what it is, where it is there, the places of the hosts
+    that hold it, and else why it cannot be asked."""
 
     place: int
     word: str
     host: str
     path: str
-    holders: list
-    hosts: set
-    since: float = None
+    seen: object = None
+    holders: list = field(default_factory=list)
+    cause: str = ""
 
 
-def worker_of(address, info, answer):
-    """A worker, by what the scheduler knows of it and what it answers itself. A name that is no address was given to
-    it; else its host has one."""
-    machine, held = answer
-    given = str(info.get("name", ""))
-    host = given if given and "://" not in given and not given.isdigit() else machine
-    return Worker(address, host, frozenset((host, machine, info.get("host", ""))), held)
-
-
-def survey(client, paths):
-    """All workers that answer, with what they hold of these paths, and for each other one why it does not."""
-    known = client.scheduler_info()["workers"]
-    if not known:
-        raise Refused(f"the scheduler has no workers: dask-worker ADDRESS {PRELOAD} starts one", ENGINE)
-    workers, faults = [], []
-    for address, answer in client.run(asking.held, sorted(set(paths)), on_error="return").items():
-        if isinstance(answer, BaseException) and UNKNOWN in str(answer):
-            faults.append(f"the worker {address} does not know btfleet: start it with {PRELOAD}")
-        elif isinstance(answer, BaseException):
-            faults.append(f"the worker {address} does not answer: {answer}")
-        elif address in known:
-            workers.append(worker_of(address, known[address], answer))
-    return sorted(workers, key=lambda worker: (worker.host, worker.address)), faults
-
-
-def same_file(operand, holders):
-    """Refuses a path that is another file on another host."""
-    files = {}
-    for worker in holders:
-        files.setdefault(worker.held[operand.path], worker.host)
-    if len(files) > 1:
-        hosts = sorted(files.values())
-        raise Refused(f"{operand.word} is another file on {hosts[0]} than on {hosts[1]}: "
-                      f"name one by {hosts[0]}:{operand.path}, or that of each host by '{EACH}:{operand.path}'", WORDS)
-
-
-def of_one(operand, workers):
-    """The host of a recording that is named with a host or without one, and the workers that hold it."""
-    if operand.host:
-        workers = [worker for worker in workers if operand.host in worker.names]
-        if not workers:
-            raise Refused(f"{operand.word}: no worker is on a host of this name", WORDS)
-    holders = [worker for worker in workers if operand.path in worker.held]
-    if not operand.host:
-        same_file(operand, holders)
-    return (holders or workers)[0].host, holders
-
-
-def of_each(operand, workers):
-    """The recordings of this path, one for each host: the host, and the workers that hold it."""
-    hosts = {}
-    for worker in workers:
-        hosts.setdefault(worker.host, []).extend([worker] if operand.path in worker.held else [])
-    return list(hosts.items())
-
-
-def placed(operands, workers):
-    """All recordings that are asked, in the order of the words."""
-    found, seen = [], set()
+def wanted_of(operands, hosts):
+    """The hosts that words name, each with the paths that are asked of it. Refused where a name is that of several."""
+    wanted = {}
     for operand in operands:
-        for host, holders in of_each(operand, workers) if operand.host == EACH else [of_one(operand, workers)]:
-            word = f"{host}:{operand.path}" if operand.host == EACH else operand.word
-            if (host, operand.path) in seen:
-                raise Refused(f"{word} is named twice", WORDS)
-            seen.add((host, operand.path))
-            found.append(Asked(len(found), word, host, operand.path, [worker.address for worker in holders],
-                               {worker.host for worker in holders}))
+        if operand.host == EACH:
+            asked = each_of(hosts)
+        elif operand.host:
+            asked = [host for host in [host_named(operand.host, hosts)] if host]
+        else:
+            asked = hosts
+        for host in asked:
+            wanted.setdefault(host.place(), (host, set()))[1].add(operand.path)
+    return list(wanted.values())
+
+
+def one_file(one, other):
+    """The refusal of two words for one file."""
+    return Refused(f"{one} and {other} are one file, which would be counted twice", WORDS)
+
+
+class Places:
+    """The recordings so far, by what they are: each is asked once."""
+
+    def __init__(self, hosts, seen):
+        self.hosts, self.seen = hosts, seen
+        self.found, self.known, self.alike, self.notes = [], {}, {}, []
+
+    def add(self, word, label, path, holders, cause=""):
+        """Adds a recording, by the hosts that hold it; refused where it is there under another word."""
+        recording = self.seen[holders[0].place()].recording(path) if holders else None
+        if recording:
+            for host in holders:
+                key = (host.workers[0].machine.kernel, recording)
+                if key in self.known:
+                    raise one_file(self.known[key], word)
+            if recording.alike() in self.alike:
+                raise Refused(f"{self.alike[recording.alike()]} and {word} are one file, as on a shared disk or copied with its disk: name it by "
+                              f"{path} alone", WORDS)
+            self.known.update({(host.workers[0].machine.kernel, recording): word for host in holders})
+            self.alike[recording.alike()] = word
+        self.found.append(Asked(len(self.found), word, label, path, recording, [host.place() for host in holders], cause))
+
+    def holders(self, path, hosts):
+        """Those hosts that hold a recording at a path."""
+        return [host for host in hosts if host.place() in self.seen and self.seen[host.place()].recording(path)]
+
+    def add_of(self, operand):
+        """The recording of one named host."""
+        host = host_named(operand.host, self.hosts)
+        if not host:
+            self.add(operand.word, operand.host, operand.path, [], "no worker is on a host of this name")
+            return
+        given = {worker.given for worker in host.workers}
+        label = operand.host if operand.host in given else host.name
+        self.add(operand.word, label, operand.path, self.holders(operand.path, [host]), self.seen[host.place()].why(operand.path))
+
+    def add_any(self, operand):
+        """The recording at a path, where any host holds it. Other files of this path are refused."""
+        holders, files = self.holders(operand.path, self.hosts), {}
+        for host in holders:
+            files.setdefault(self.seen[host.place()].recording(operand.path).alike(), host.name)
+        if len(files) > 1:
+            one, other = sorted(files.values())[:2]
+            raise Refused(f"{operand.word} is another file on {one} than on {other}: name one by {one}:{operand.path}, or that of each host by "
+                          f"'{EACH}:{operand.path}'", WORDS)
+        silent = [host.name for host in self.hosts if self.seen[host.place()].fault]
+        if silent and holders:
+            self.notes.append(f"{operand.word}: {named(silent)} could not be asked whether it is another file there")
+        whys = {self.seen[host.place()].why(operand.path) for host in self.hosts if host not in holders}
+        cause = min(whys) if len(whys) == 1 else NOT_THERE + (f", and {named(silent)} could not be asked" if silent else "")
+        self.add(operand.word, holders[0].name if holders else "", operand.path, holders, cause)
+
+    def add_each(self, operand):
+        """The recordings of all hosts. What several hosts of one machine see as one file is one recording."""
+        files = {}
+        for host in self.hosts:
+            recording = self.seen[host.place()].recording(operand.path)
+            key = (host.workers[0].machine.kernel, recording) if recording else host.place()
+            files.setdefault(key, []).append(host)
+        for hosts in files.values():
+            holders = self.holders(operand.path, hosts)
+            self.add(f"{hosts[0].name}:{operand.path}", hosts[0].name, operand.path, holders, self.seen[hosts[0].place()].why(operand.path))
+
+
+def placed(operands, hosts, seen):
+    """All recordings that are asked, in the order of the words, by what was seen of the hosts; and what is told of them."""
+    places = Places(hosts, seen)
+    for operand in operands:
+        if operand.host == EACH:
+            places.add_each(operand)
+        elif operand.host:
+            places.add_of(operand)
+        else:
+            places.add_any(operand)
+    return places.found, places.notes
+
+
+def expected(found, names, hosts, operands):
+    """Adds to the recordings those of hosts that were expected and that the scheduler does not know."""
+    for operand in operands:
+        for name in names if operand.host == EACH else ():
+            if not host_named(name, hosts):
+                found.append(Asked(len(found), f"{name}:{operand.path}", name, operand.path, cause="no worker is on a host of this name"))
     return found
-
-
-def placed_here(operands, workers):
-    """All recordings on this machine. A host is a name for what the recording answers."""
-    worker, = workers
-    holders = {path: [worker.address] for path in worker.held}
-    return [Asked(place, one.word, one.host or worker.host, one.path, holders.get(one.path, []), {worker.host})
-            for place, one in enumerate(operands)]

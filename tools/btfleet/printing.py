@@ -54,9 +54,13 @@ class Lines:
         """How many updates of a map were lost."""
         return self.line({"count": count, "map": name, "type": "lost_updates"}, host)
 
+    def failures(self, failures):
+        """The recordings that are not in the result, each with its cause."""
+        return "".join(self.line({"cause": cause, "recording": asked.word, "type": "failure"}, asked.host) for asked, cause in failures)
+
     def coded(self, text):
         """The bytes of what was printed."""
-        return text.encode()
+        return text.encode(errors="surrogateescape")
 
 
 class Text:
@@ -87,6 +91,10 @@ class Text:
         """How many updates of a map were lost."""
         return self.line(f"WARNING: {count} updates lost in {name}\n", host)
 
+    def failures(self, _):
+        """Nothing: they are told on standard error."""
+        return ""
+
     def coded(self, text):
         """The bytes of what was printed."""
         return text.encode("latin-1")
@@ -113,7 +121,8 @@ def pieces(merged, form):
         yield form.lost_updates(name, count, host)
 
 
-def printed(merged, as_json):
-    """All that is printed of merged answers, in bytes, piece by piece."""
+def printed(merged, as_json, failures=()):
+    """All that is printed of merged answers, in bytes, piece by piece. JSON lines end with the recordings that failed, pairs of what was asked and why."""
     form = Lines() if as_json else Text()
-    return (form.coded(piece) for piece in pieces(merged, form))
+    yield from (form.coded(piece) for piece in pieces(merged, form))
+    yield form.coded(form.failures(failures))

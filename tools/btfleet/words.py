@@ -2,6 +2,7 @@
 import argparse
 
 from btfleet.faults import WORDS
+from btreplay import proved
 
 DESCRIPTION = ("Asks one script of many recordings, each where a worker of Dask's distributed scheduler holds it, and "
                "prints the merged rows as btreplay prints those of one. It is not proved.")
@@ -17,14 +18,24 @@ class Words(argparse.ArgumentParser):
         self.exit(WORDS, f"btfleet: {message}\n{self.format_usage()}")
 
 
+class Version(argparse.Action):
+    """Prints with what the program was proved, and ends."""
+
+    def __call__(self, parser, *_):
+        print(proved.version())
+        parser.exit()
+
+
 def words():
     """The words of all commands."""
     parser = Words(prog="btfleet", description=DESCRIPTION)
+    parser.add_argument("--version", "-V", action=Version, nargs=0, help="print the version, and end")
     parser.add_argument("--unproved", action="store_true",
                         help="ask by builds that are not proved, as btreplay --unproved")
     commands = parser.add_subparsers(dest="command", required=True, metavar="COMMAND", parser_class=Words)
     run = commands.add_parser("run", help="ask a script of recordings, and print what they answer together",
-                              usage="btfleet run SCRIPT RECORDING .. [--scheduler ADDRESS] [--json] [--by-host]")
+                              usage="btfleet run SCRIPT RECORDING .. [--scheduler ADDRESS] [--json] [--by-host] [--timeout SECONDS] [--hosts FILE] "
+                                    "[--least N]")
     run.add_argument("script", metavar="SCRIPT", help="the script; - is standard input")
     run.add_argument("recordings", nargs="+", metavar="RECORDING", help=RECORDING)
     run.add_argument("--scheduler", metavar="ADDRESS",
@@ -32,7 +43,26 @@ def words():
     run.add_argument("--json", action="store_true", help="print JSON lines, as btreplay run --json")
     run.add_argument("--by-host", action="store_true",
                      help="keep the rows of each host apart, with its name as the first part of the key")
+    run.add_argument("--timeout", metavar="SECONDS", type=seconds, help="the most that a run over one recording may take")
+    run.add_argument("--hosts", metavar="FILE", help="a file of the names of hosts, one in a line, each of which '*:PATH' has to find")
+    run.add_argument("--least", metavar="N", type=count, default=0, help="how many recordings have to answer, or nothing is printed")
     return parser
+
+
+def seconds(word):
+    """A time in seconds of words."""
+    found = float(word)
+    if not 0 < found < 1e9:
+        raise argparse.ArgumentTypeError(f"{word} is no time in seconds")
+    return found
+
+
+def count(word):
+    """A count of words."""
+    found = int(word)
+    if found < 0:
+        raise argparse.ArgumentTypeError(f"{word} is no count")
+    return found
 
 
 def parsed(arguments):

@@ -190,8 +190,7 @@ class Answers(unittest.TestCase):
                                      (2, b"-: script too long\n", "s.bt: script too long"), (4, b"/r.btr: read fault\n", "read fault"),
                                      (3, b"/r.btr: C2 bad magic\n/r.btr is a file of perf: ..\n", "C2 bad magic; /r.btr is a file of perf: .."),
                                      (6, b"out of memory\n", "out of memory"), (1, b"usage: btreplay run ..\n", older),
-                                     (-9, b"", "its run was ended by SIGKILL"), (77, b"", "its run ended with status 77"),
-                                     (None, b"no program", "no program")):
+                                     (-9, b"", "its run was ended by SIGKILL"), (77, b"", "its run ended with status 77")):
             with self.subTest(told):
                 self.assertEqual(cause_of(status, told, "/r.btr", "s.bt"), wanted)
 
