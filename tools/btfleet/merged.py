@@ -49,7 +49,7 @@ class Merged:
         """The lost updates of each map in the order of the maps, as triples of the host, the map's name and how
         many; where hosts do not stay apart there is one sum for a map, without a host."""
         sums = {}
-        for name in self.plan.laws:
+        for name in [name for name in self.plan.laws if name not in self.plan.beside()]:
             for part in self.parts_in_order():
                 key = (part.host if self.by_host else None, name)
                 sums[key] = (sums.get(key, 0) + part.lost.get(name, 0)) & MOST_COUNT

@@ -18,7 +18,7 @@ def ordered(rows, top, law):
 
 def divided(number, div):
     """A number divided towards 0."""
-    return number // div if number >= 0 else -(-number // div)
+    return number // div if (number >= 0) == (div > 0) else -(-number // div)
 
 
 def shown_rows(rows, printed, law):
@@ -29,6 +29,11 @@ def shown_rows(rows, printed, law):
         return [(key, divided(value, printed.div)) for key, value in found]
     counts = [(key, {place: count // printed.div for place, count in value.items()}) for key, value in found]
     return [(key, law.rows(value)) for key, value in counts]
+
+
+def averages(sums, counts):
+    """The averages of rows, by their sums and counts: a sum divided by its count, towards 0; of none it is 0."""
+    return {key: divided(number, counts[key]) if counts[key] else 0 for key, number in sums.items()}
 
 
 class Lines:
@@ -101,14 +106,20 @@ def pieces(merged, form):
         """What the recordings print by themselves before a print of END, or behind all."""
         return "".join(form.items(part.items[place], part.host if merged.by_host else None) for part in parts)
 
-    for place, printed in enumerate(merged.plan.prints):
-        yield items(place)
+    plan = merged.plan
+
+    def rows(printed, found, counts):
+        """The rows of a print, or of a map at the end. What only stands beside others is not shown."""
+        found = averages(found, counts) if printed.name in plan.averages else found
         law = laws[printed.name]
-        yield form.rows(printed.name, law, shown_rows(merged.printed.get(place, {}), printed, law))
+        return "" if printed.name in plan.beside() else form.rows(printed.name, law, shown_rows(found, printed, law))
+
+    for place, printed in enumerate(plan.prints):
+        yield items(place)
+        yield rows(printed, merged.printed.get(place, {}), merged.printed.get(place + 1, {}))
     yield items(-1)
-    for name, law in laws.items():
-        if name in merged.ends:
-            yield form.rows(name, law, shown_rows(merged.ends[name], Printed(name), law))
+    for name in laws:
+        yield rows(Printed(name), merged.ends.get(name, {}), merged.ends.get(plan.counts.get(name), {}))
     for host, name, count in merged.lost_updates():
         yield form.lost_updates(name, count, host)
 

@@ -25,7 +25,7 @@ class Result:
             return
         status, text, told = found
         if status != 0:
-            self.causes[asked.place] = cause_of(status, told, asked.path, self.shown)
+            self.causes[asked.place] = cause_of(status, self.merged.plan.in_script(told), asked.path, self.shown)
             self.refusals.update({asked.place} if is_refused_script(status, told) else ())
             return
         try:
