@@ -4,12 +4,15 @@ import os
 import signal
 import sys
 
+from btfleet.comparing import compared
+from btfleet.differing import Comparison
 from btfleet.engine import connected, imported
 from btfleet.faults import ENGINE, MEMORY, READ, SCRIPT, WORDS, WRITE, Refused
 from btfleet.fleet import Fleet
+from btfleet.labels import groups_of
 from btfleet.operands import operands
 from btfleet.placing import placed, placed_here, survey
-from btfleet.plan import Fault, plan_of, told_fault
+from btfleet.plan import Fault, exit_in, plan_of, told_fault
 from btfleet.printing import printed
 from btfleet.progress import Progress
 from btfleet.result import Result
@@ -50,11 +53,15 @@ def script_of(word):
     return script, "standard input" if word == "-" else word
 
 
-def plan_or_refused(script, shown):
+def plan_or_refused(script, shown, is_compared=False):
     """How answers to a script are merged. A script whose answers cannot be is refused, with the place and the
     remedy."""
     text = text_of(script)
-    plan = plan_of(text)
+    plan = plan_of(text, is_compared)
+    at = exit_in(text) if is_compared else None
+    if at is not None:
+        raise Refused(f"{shown}:%d:%d: exit ends a run before its recording, so nothing of it is per second: --diff wants none" % place_of(text, at),
+                      SCRIPT)
     if not isinstance(plan, Fault):
         return plan
     line, column = place_of(text, plan.at)
@@ -75,16 +82,26 @@ def how_to_ask(asked):
         yield False, str(proved.program())
 
 
+def keep_apart(asked, result):
+    """Puts hosts into groups, where that is asked; Refused where there is nothing to compare."""
+    if asked.by:
+        result.group(groups_of({one.host for one in result.asked}, asked.labels, asked.by))
+    names = {result.groups.get(one.host, one.host) for one in result.asked}
+    if asked.diff and len(names) < 2:
+        raise Refused(f"--diff compares {'groups' if asked.by else 'hosts'}, and all recordings are of {min(names)}: name them, as web1:PATH", WORDS)
+
+
 def ask(asked, plan, named, shown):
     """Asks all recordings, and gives what came of them."""
     imported()
-    result = Result(plan, asked.by_host, shown)
+    result = Result(plan, asked.by_host or asked.diff, shown)
     with how_to_ask(asked) as how, connected(asked.scheduler) as client:
         workers, faults = survey(client, [operand.path for operand in named])
         tell(faults)
         if not workers:
             raise Refused("no worker can be asked", ENGINE)
         result.asked = placed(named, workers) if asked.scheduler else placed_here(named, workers)
+        keep_apart(asked, result)
         fleet, progress = Fleet(client, plan.script.encode("latin-1"), how), Progress(len(result.asked))
         try:
             for came in fleet.answers(result.asked):
@@ -113,15 +130,24 @@ def write(pieces):
     return 0
 
 
+def shown_of(asked, merged):
+    """What is printed of merged answers, and what is told beside it."""
+    if not asked.diff:
+        return printed(merged, asked.json), []
+    comparison = Comparison(merged)
+    return compared(comparison.differences(), merged.apart, asked.json), comparison.told() if merged.parts else []
+
+
 def run(asked):
     """Asks a script of recordings, and prints what they answer together. It gives the status."""
     script, shown = script_of(asked.script)
-    plan = plan_or_refused(script, shown)
+    plan = plan_or_refused(script, shown, asked.diff)
     result = ask(asked, plan, operands(asked.recordings, bool(asked.scheduler)), shown)
     if result.is_refused():
         tell_alone(sorted(set(result.causes.values())))
-    status = write(printed(result.merged, asked.json))
-    tell(result.told())
+    pieces, told = shown_of(asked, result.merged)
+    status = write(pieces)
+    tell(told + result.told())
     return status or result.status()
 
 

@@ -257,6 +257,11 @@ def plan_of(script, with_spans=False):
                 frozenset(averages), {name: word for name, (word, _) in laws.items()}, span, script, asked)
 
 
+def exit_in(script):
+    """The offset of the first call of `exit` in a probe that is not of END alone; none where there is none."""
+    return min((at for probe in probes_of(script) if probe.kinds() != {"END"} for word, at in probe.calls if word == "exit"), default=None)
+
+
 def told_fault(fault, script, shown):
     """A fault as the program tells its own, for a script that is called so."""
     line, column = place_of(script, fault.at)

@@ -39,9 +39,12 @@ def averages(sums, counts):
 class Lines:
     """JSON lines, as the program writes them. Where hosts stay apart, a line that is no map's names its host."""
 
+    def __init__(self, apart):
+        self.apart = apart
+
     def line(self, found, host):
         """The line of an object."""
-        found = found if host is None else {**found, "host": host}
+        found = found if host is None else {**found, self.apart: host}
         return json.dumps(found, ensure_ascii=False, separators=(",", ":"), sort_keys=True) + "\n"
 
     def items(self, items, host):
@@ -126,5 +129,5 @@ def pieces(merged, form):
 
 def printed(merged, as_json):
     """All that is printed of merged answers, in bytes, piece by piece."""
-    form = Lines() if as_json else Text()
+    form = Lines(merged.apart) if as_json else Text()
     return (form.coded(piece) for piece in pieces(merged, form))

@@ -6,7 +6,7 @@ from btfleet.answers import answer_of
 from btfleet.causes import cause_of, is_refused_script
 from btfleet.faults import NONE_IN, SCRIPT, SOME_OUT, NotMerged
 from btfleet.fleet import Unasked
-from btfleet.merged import Merged
+from btfleet.merged import GROUP, Merged
 
 
 class Result:
@@ -14,9 +14,13 @@ class Result:
     `refusals` has the recordings over which the script itself was refused."""
 
     def __init__(self, plan, by_host, shown):
-        self.merged, self.shown = Merged(plan, by_host), shown
+        self.merged, self.shown, self.groups = Merged(plan, by_host), shown, {}
         self.asked, self.causes, self.losses = [], {}, {}
         self.refusals = set()
+
+    def group(self, groups):
+        """Puts hosts into groups, which stay apart in their place."""
+        self.groups, self.merged.by_host, self.merged.apart = groups, True, GROUP
 
     def take(self, asked, found):
         """Takes what a recording answers, or why it does not."""
@@ -30,7 +34,7 @@ class Result:
             return
         try:
             answer = answer_of(text, self.merged.plan)
-            self.merged.take(asked.place, bytes_as_letters(asked.host), answer)
+            self.merged.take(asked.place, bytes_as_letters(self.groups.get(asked.host, asked.host)), answer)
             self.losses[asked.place] = answer.lost_events(), sum(answer.lost.values())
         except NotMerged as fault:
             self.causes[asked.place] = str(fault)
