@@ -65,17 +65,27 @@ def places_of(names, plan):
     return [place for _, place in wanted]
 
 
+def test_counts(answer, plan):
+    """Refuses an answer that has not a count for each row beside which one is asked."""
+    rows = [(name, answer.ends.get(name, {}), answer.ends.get(count, {})) for name, count in plan.counts.items()]
+    rows += [(one.name, answer.printed.get(place, {}), answer.printed.get(place + 1, {})) for place, one in enumerate(plan.prints)
+             if one.name in plan.counts]
+    for name, sums, counts in rows:
+        if sums.keys() != counts.keys():
+            raise NotMerged(f"it answers rows of {name} without their counts")
+
+
 def answer_of(text, plan):
     """The answer of a recording, from what its run printed."""
     lines = lines_of(text)
     places = iter(places_of([line.get("map") for line in lines if line["type"] == "map"], plan))
-    answer, part = Answer([[] for _ in range(len(plan.prints) + 1)]), 0
+    answer, part, beside = Answer([[] for _ in range(len(plan.prints) + 1)]), 0, plan.beside()
     try:
         for line in lines:
             if line["type"] in ITEMS:
                 answer.items[part].append(line)
             elif line["type"] == "lost_updates":
-                answer.lost[line["map"]] = line["count"]
+                answer.lost.update({line["map"]: line["count"]} if line["map"] not in beside else {})
             else:
                 place = next(places)
                 if place is None:
@@ -84,4 +94,5 @@ def answer_of(text, plan):
                     answer.printed[place], part = rows_of(line, plan), place + 1
     except (KeyError, TypeError) as fault:
         raise NotMerged(f"a line of its answer lacks a part: {fault}") from fault
+    test_counts(answer, plan)
     return answer

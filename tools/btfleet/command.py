@@ -7,14 +7,17 @@ import socket
 import sys
 
 from btfleet.asking import version
+from btfleet.comparing import compared
+from btfleet.differing import Comparison
 from btfleet.engine import connected
 from btfleet.faults import ENGINE, MEMORY, READ, SCRIPT, WORDS, WRITE, Refused
 from btfleet.fleet import Fleet, Question
 from btfleet.here import Here, placed_here
 from btfleet.hosts import PRELOAD, hosts_of
+from btfleet.labels import groups_of
 from btfleet.operands import EACH, operands
 from btfleet.placing import expected, placed, wanted_of
-from btfleet.plan import Fault, plan_of, told_fault
+from btfleet.plan import Fault, exit_in, plan_of, told_fault
 from btfleet.printing import printed
 from btfleet.progress import Progress, named
 from btfleet.result import Result
@@ -60,11 +63,15 @@ def script_of(word):
     return script, "standard input" if word == "-" else word
 
 
-def plan_or_refused(script, shown):
+def plan_or_refused(script, shown, is_compared=False):
     """How answers to a script are merged. A script whose answers cannot be is refused, with the place and the
     remedy."""
     text = text_of(script)
-    plan = plan_of(text)
+    plan = plan_of(text, is_compared)
+    at = exit_in(text) if is_compared else None
+    if at is not None:
+        raise Refused(f"{shown}:%d:%d: exit ends a run before its recording, so nothing of it is per second: --diff wants none" % place_of(text, at),
+                      SCRIPT)
     if not isinstance(plan, Fault):
         return plan
     line, column = place_of(text, plan.at)
@@ -80,6 +87,15 @@ def program_here(asked):
             yield str(program)
     else:
         yield str(proved.program())
+
+
+def keep_apart(asked, result):
+    """Puts hosts into groups, where that is asked; Refused where there is nothing to compare."""
+    if asked.by:
+        result.group(groups_of({one.host for one in result.asked}, asked.labels, asked.by))
+    names = {result.groups.get(one.host, one.host) for one in result.asked}
+    if asked.diff and len(names) < 2:
+        raise Refused(f"--diff compares {'groups' if asked.by else 'hosts'}, and all recordings are of {min(names)}: name them, as web1:PATH", WORDS)
 
 
 def hosts_expected(path):
@@ -114,6 +130,7 @@ async def ask_here(asked, question, named_here, result, progress):
     """Asks the recordings of this machine."""
     with program_here(asked) as program:
         result.asked = placed_here(named_here)
+        keep_apart(asked, result)
         progress.count = len(result.asked)
         tell(alike_told(result.asked))
         await gather(Here(question, program, progress).answers(result.asked), result, progress)
@@ -141,6 +158,7 @@ async def ask_hosts(asked, question, operands_named, result, progress):
         seen = await survey(link, wanted, asked.unproved, progress)
         result.asked, notes = placed(operands_named, hosts, seen)
         expected(result.asked, hosts_expected(asked.hosts) if asked.hosts else [], hosts, operands_named)
+        keep_apart(asked, result)
         progress.count = len(result.asked)
         tell(notes + alike_told(result.asked))
         tell(told_programs({host.name: seen[host.place()] for host, _ in wanted}, asked.unproved))
@@ -149,7 +167,7 @@ async def ask_hosts(asked, question, operands_named, result, progress):
 
 def ask(asked, plan, named_all, shown):
     """Asks all recordings, and gives what came of them."""
-    result, progress = Result(plan, asked.by_host, shown, asked.least), Progress()
+    result, progress = Result(plan, asked.by_host or asked.diff, shown, asked.least), Progress()
     question = Question(plan.script.encode("latin-1"), asked.unproved, asked.timeout)
     how = ask_hosts if asked.scheduler else ask_here
     try:
@@ -182,6 +200,14 @@ def keep_inputs(asked, named):
         raise Refused(fault, WORDS)
 
 
+def shown_of(asked, merged, failures):
+    """What is printed of merged answers, and what is told beside it."""
+    if not asked.diff:
+        return printed(merged, asked.json, failures), []
+    comparison = Comparison(merged)
+    return compared(comparison.differences(), merged.apart, asked.json), comparison.told() if merged.parts else []
+
+
 def run(asked):
     """Asks a script of recordings, and prints what they answer together. It gives the status."""
     if asked.scheduler == "":
@@ -189,12 +215,13 @@ def run(asked):
     named = operands(asked.recordings, bool(asked.scheduler))
     keep_inputs(asked, named)
     script, shown = script_of(asked.script)
-    plan = plan_or_refused(script, shown)
+    plan = plan_or_refused(script, shown, asked.diff)
     result = ask(asked, plan, named, shown)
     if result.is_refused():
         tell_alone(sorted(set(result.causes.values())))
-    status = 0 if result.is_too_few() else write(printed(result.merged, asked.json, result.failures()))
-    tell(result.told())
+    pieces, told = shown_of(asked, result.merged, result.failures())
+    status = 0 if result.is_too_few() else write(pieces)
+    tell(told + result.told())
     return status or result.status()
 
 

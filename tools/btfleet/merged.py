@@ -14,6 +14,9 @@ class Part:
     lost: dict
 
 
+HOST, GROUP = "host", "group"
+
+
 def put_together(rows, more, law, host):
     """Puts rows to those that are there, by the law of their map; the key begins with the host, where there is one."""
     for key, value in more.items():
@@ -24,13 +27,16 @@ def put_together(rows, more, law, host):
 @dataclass
 class Merged:
     """The answers so far. Rows are put together as they come, since their laws know no order; what is printed by
-    recordings stands in the order in which the words name them. With `by_host` the rows of each host stay apart."""
+    recordings stands in the order in which the words name them. With `by_host` the rows of each host stay apart, or
+    those of each group of hosts; `apart` says which."""
 
     plan: object
     by_host: bool = False
     printed: dict = field(default_factory=dict)
     ends: dict = field(default_factory=dict)
     parts: dict = field(default_factory=dict)
+    apart: str = HOST
+    nanoseconds: dict = field(default_factory=dict)
 
     def take(self, place, host, answer):
         """Takes the answer of the recording at a place among the words."""
@@ -39,6 +45,9 @@ class Merged:
             put_together(self.printed.setdefault(at, {}), rows, self.plan.laws[self.plan.prints[at].name], shown)
         for name, rows in answer.ends.items():
             put_together(self.ends.setdefault(name, {}), rows, self.plan.laws[name], shown)
+        if self.plan.span:
+            span = answer.ends.get(self.plan.span, {}).get((), 0)
+            self.nanoseconds[host] = self.nanoseconds.get(host, 0) + span
         self.parts[place] = Part(host, answer.items, answer.lost)
 
     def parts_in_order(self):
@@ -49,7 +58,7 @@ class Merged:
         """The lost updates of each map in the order of the maps, as triples of the host, the map's name and how
         many; where hosts do not stay apart there is one sum for a map, without a host."""
         sums = {}
-        for name in self.plan.laws:
+        for name in [name for name in self.plan.laws if name not in self.plan.beside()]:
             for part in self.parts_in_order():
                 key = (part.host if self.by_host else None, name)
                 sums[key] = (sums.get(key, 0) + part.lost.get(name, 0)) & MOST_COUNT

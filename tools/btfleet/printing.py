@@ -18,7 +18,7 @@ def ordered(rows, top, law):
 
 def divided(number, div):
     """A number divided towards 0."""
-    return number // div if number >= 0 else -(-number // div)
+    return number // div if (number >= 0) == (div > 0) else -(-number // div)
 
 
 def shown_rows(rows, printed, law):
@@ -31,12 +31,20 @@ def shown_rows(rows, printed, law):
     return [(key, law.rows(value)) for key, value in counts]
 
 
+def averages(sums, counts):
+    """The averages of rows, by their sums and counts: a sum divided by its count, towards 0; of none it is 0."""
+    return {key: divided(number, counts[key]) if counts[key] else 0 for key, number in sums.items()}
+
+
 class Lines:
     """JSON lines, as the program writes them. Where hosts stay apart, a line that is no map's names its host."""
 
+    def __init__(self, apart):
+        self.apart = apart
+
     def line(self, found, host):
         """The line of an object."""
-        found = found if host is None else {**found, "host": host}
+        found = found if host is None else {**found, self.apart: host}
         return json.dumps(found, ensure_ascii=False, separators=(",", ":"), sort_keys=True) + "\n"
 
     def items(self, items, host):
@@ -109,20 +117,26 @@ def pieces(merged, form):
         """What the recordings print by themselves before a print of END, or behind all."""
         return "".join(form.items(part.items[place], part.host if merged.by_host else None) for part in parts)
 
-    for place, printed in enumerate(merged.plan.prints):
-        yield items(place)
+    plan = merged.plan
+
+    def rows(printed, found, counts):
+        """The rows of a print, or of a map at the end. What only stands beside others is not shown."""
+        found = averages(found, counts) if printed.name in plan.averages else found
         law = laws[printed.name]
-        yield form.rows(printed.name, law, shown_rows(merged.printed.get(place, {}), printed, law))
+        return "" if printed.name in plan.beside() else form.rows(printed.name, law, shown_rows(found, printed, law))
+
+    for place, printed in enumerate(plan.prints):
+        yield items(place)
+        yield rows(printed, merged.printed.get(place, {}), merged.printed.get(place + 1, {}))
     yield items(-1)
-    for name, law in laws.items():
-        if name in merged.ends:
-            yield form.rows(name, law, shown_rows(merged.ends[name], Printed(name), law))
+    for name in laws:
+        yield rows(Printed(name), merged.ends.get(name, {}), merged.ends.get(plan.counts.get(name), {}))
     for host, name, count in merged.lost_updates():
         yield form.lost_updates(name, count, host)
 
 
 def printed(merged, as_json, failures=()):
     """All that is printed of merged answers, in bytes, piece by piece. JSON lines end with the recordings that failed, pairs of what was asked and why."""
-    form = Lines() if as_json else Text()
+    form = Lines(merged.apart) if as_json else Text()
     yield from (form.coded(piece) for piece in pieces(merged, form))
     yield form.coded(form.failures(failures))

@@ -5,7 +5,7 @@ from btfleet.answers import answer_of
 from btfleet.causes import cause_of, is_refused_script
 from btfleet.faults import ENGINE, NONE_IN, SCRIPT, SOME_OUT, NotMerged
 from btfleet.fleet import GONE, Unasked
-from btfleet.merged import Merged
+from btfleet.merged import GROUP, Merged
 
 MOST_ALONE, MOST_NAMED = 3, 10
 
@@ -15,9 +15,13 @@ class Result:
     script itself was refused. `least` is how many recordings have to answer."""
 
     def __init__(self, plan, by_host, shown, least=0):
-        self.merged, self.shown, self.least = Merged(plan, by_host), shown, least
+        self.merged, self.shown, self.least, self.groups = Merged(plan, by_host), shown, least, {}
         self.asked, self.causes, self.losses = [], {}, {}
         self.refusals = set()
+
+    def group(self, groups):
+        """Puts hosts into groups, which stay apart in their place."""
+        self.groups, self.merged.by_host, self.merged.apart = groups, True, GROUP
 
     def take(self, asked, found):
         """Takes what a recording answers, or why it does not."""
@@ -25,12 +29,12 @@ class Result:
             self.causes[asked.place] = str(found) if isinstance(found, Unasked) else found.why
             return
         if found.status != 0:
-            self.causes[asked.place] = cause_of(found.status, found.told, asked.path, self.shown)
+            self.causes[asked.place] = cause_of(found.status, self.merged.plan.in_script(found.told), asked.path, self.shown)
             self.refusals.update({asked.place} if is_refused_script(found.status, found.told) else ())
             return
         try:
             answer = answer_of(found.printed, self.merged.plan)
-            self.merged.take(asked.place, bytes_as_letters(asked.host), answer)
+            self.merged.take(asked.place, bytes_as_letters(self.groups.get(asked.host, asked.host)), answer)
             self.losses[asked.place] = answer.lost_events(), sum(answer.lost.values())
         except NotMerged as fault:
             self.causes[asked.place] = str(fault)

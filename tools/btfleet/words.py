@@ -34,15 +34,20 @@ def words():
                         help="ask by builds that are not proved, as btreplay --unproved")
     commands = parser.add_subparsers(dest="command", required=True, metavar="COMMAND", parser_class=Words)
     run = commands.add_parser("run", help="ask a script of recordings, and print what they answer together",
-                              usage="btfleet run SCRIPT RECORDING .. [--scheduler ADDRESS] [--json] [--by-host] [--timeout SECONDS] [--hosts FILE] "
-                                    "[--least N]")
+                              usage="btfleet run SCRIPT RECORDING .. [--scheduler ADDRESS] [--json] [--by-host | --by LABEL --labels FILE] [--diff] "
+                                    "[--timeout SECONDS] [--hosts FILE] [--least N]")
     run.add_argument("script", metavar="SCRIPT", help="the script; - is standard input")
     run.add_argument("recordings", nargs="+", metavar="RECORDING", help=RECORDING)
     run.add_argument("--scheduler", metavar="ADDRESS",
                      help="the scheduler, as tcp://HOST:8786; without it the recordings are read on this machine")
     run.add_argument("--json", action="store_true", help="print JSON lines, as btreplay run --json")
-    run.add_argument("--by-host", action="store_true",
-                     help="keep the rows of each host apart, with its name as the first part of the key")
+    apart = run.add_mutually_exclusive_group()
+    apart.add_argument("--by-host", action="store_true",
+                       help="keep the rows of each host apart, with its name as the first part of the key")
+    apart.add_argument("--by", metavar="LABEL", help="keep the rows of groups of hosts apart, which have one value of a label")
+    run.add_argument("--labels", metavar="FILE", help="the labels of hosts, as lines HOST NAME=VALUE ..")
+    run.add_argument("--diff", action="store_true",
+                     help="print what differs between hosts, or groups of them, per second of recording, the most different first")
     run.add_argument("--timeout", metavar="SECONDS", type=seconds, help="the most that a run over one recording may take")
     run.add_argument("--hosts", metavar="FILE", help="a file of the names of hosts, one in a line, each of which '*:PATH' has to find")
     run.add_argument("--least", metavar="N", type=count, default=0, help="how many recordings have to answer, or nothing is printed")
@@ -67,4 +72,10 @@ def count(word):
 
 def parsed(arguments):
     """What the arguments ask."""
-    return words().parse_args(arguments)
+    parser = words()
+    asked = parser.parse_args(arguments)
+    if (asked.by is None) != (asked.labels is None):
+        parser.error("--by LABEL and --labels FILE are given together")
+    if asked.by is not None and not asked.by:
+        parser.error("--by wants the name of a label")
+    return asked

@@ -45,7 +45,7 @@ class Laws(unittest.TestCase):
                 with self.subTest((word, one, other)):
                     self.assertEqual(law_of(word).merged(one, other), wanted)
                     self.assertEqual(law_of(word).merged(other, one), wanted)
-        self.assertIsNone(law_of("avg"))
+        self.assertIsNone(law_of("median"))
 
     def test_ranges(self):
         self.assertEqual(POWERS[:6], ["(..., 0)", "[0]", "[1]", "[2, 4)", "[4, 8)", "[8, 16)"])
@@ -124,6 +124,28 @@ class Printed(unittest.TestCase):
         script = "t:a:b { @h = hist(args.n); } END { print(@h, 0, 4); clear(@h); }"
         answers = [[ranges("@h", [((), [("[0]", 3), ("[1]", 3), ("[2, 4)", 2)])])], [ranges("@h", [((), [("[1]", 1), ("[2, 4)", 7)])])]]
         self.assertEqual(text(script, answers).decode(), f"@h:\n[1]                    1 |{'@' * 26}{' ' * 26}|\n[2, 4)                 2 {FULL}\n")
+
+    def test_averages(self):
+        """The sums divided by the counts, towards 0; the greatest of all recordings together need not be that of one."""
+        script = "t:a:b { @a[comm] = avg(args.n); @c = count(); } END { print(@a, 2, 2); clear(@c); }"
+
+        def answer(rows):
+            """The lines of a recording, by its rows as triples of key, sum and count."""
+            sums, counts = (count_line(name, [((row[0],), row[part]) for row in rows]) for name, part in (("@a", 1), ("@a_count", 2)))
+            return [sums, counts] * 2
+
+        answers = [answer([("x", 10, 1), ("y", -7, 1), ("z", 0, 3)]), answer([("x", 1, 9), ("y", 0, 1), ("w", 9, 4)])]
+        self.assertEqual(text(script, answers), b"@a[x]: 0\n@a[w]: 1\n\n@a[y]: -3\n@a[z]: 0\n@a[x]: 1\n@a[w]: 2\n\n")
+        self.assertEqual(text(script, answers, as_json=True).decode().splitlines()[0],
+                         '{"data":[{"key":["x"],"value":0},{"key":["w"],"value":1}],"map":"@a","type":"map"}')
+        self.assertEqual(text(script, answers, by_host=True).decode().split("\n\n")[0], "@a[h1, w]: 1\n@a[h0, x]: 5")
+        lost = [json.dumps({"count": 2, "map": name, "type": "lost_updates"}) for name in ("@a", "@a_count")]
+        self.assertEqual(text(script, [lost]), b"WARNING: 2 updates lost in @a\n")
+
+    def test_averages_without_counts(self):
+        plan = plan_of("t:a:b { @a[comm] = avg(args.n); }")
+        for lines in ([count_line("@a", [(("x",), 1)])], [count_line("@a", [(("x",), 1)]), count_line("@a_count", [(("y",), 1)])]):
+            self.assertRaises(NotMerged, answer_of, "".join(f"{line}\n" for line in lines).encode(), plan)
 
     def test_lines_and_maps_stand_as_one_run_prints_them(self):
         script = ('BEGIN { printf("x"); } t:a:b { @a = count(); @b[pid] = sum(1); @c = max(1); } END { printf("A\\n"); print(@a); clear(@a); '

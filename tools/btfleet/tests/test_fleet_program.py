@@ -17,15 +17,16 @@ CPUS = 4
 # Examples that only add and print at the end, or keep the CPU in the keys of what else they use: a cut by CPUs changes
 # nothing of them.
 ADDING = ["block_bytes", "block_sizes", "error_returns", "events_by_cpu", "migrations", "read_sizes", "softirq_time", "time_on_cpu",
-          "timer_lateness", "which_calls", "write_back", "run_lengths"]
-# All aggregations but avg, over fields with numbers of both signs, with keys of all kinds, printed in part and divided.
+          "timer_lateness", "which_calls", "write_back", "run_lengths", "interrupt_time"]
+# All aggregations, over fields with numbers of both signs, with keys of all kinds, printed in part and divided.
 EACH = """BEGIN { @zero = count(); clear(@zero); }
 tracepoint:raw_syscalls:sys_exit {
     @count[comm, args.id] = count(); @sum[comm] = sum(args.ret); @least[args.id] = min(args.ret); @greatest[args.id] = max(args.ret);
     @powers[comm] = hist(args.ret); @steps[args.id % 3] = lhist(args.ret, -10, 95, 10); @wrapping = sum(args.ret * 0x0fff_ffff_ffff_ffff);
+    @mean[comm] = avg(args.ret); @means[args.id % 5] = avg(args.ret * 0x0fff_ffff_ffff_ffff);
 }
 tracepoint:block:* { @blocks[cpu, comm, pid, uid] = count(); }
-END { print(@count, 3); print(@count, 0, 7); print(@powers, 2, 2); clear(@powers); print(@steps); print(@zero); }
+END { print(@count, 3); print(@count, 0, 7); print(@powers, 2, 2); print(@mean, 2, 3); clear(@powers); print(@steps); print(@zero); }
 """
 
 
@@ -74,7 +75,7 @@ class Cut(WithProgram):
 
     def test_lines(self):
         parts = self.parts(SMALL)
-        script = self.installed.write("each.bt", EACH.replace("print(@count, 3); print(@count, 0, 7); print(@powers, 2, 2);", ""))
+        script = self.installed.write("each.bt", EACH.replace("print(@count, 3); print(@count, 0, 7); print(@powers, 2, 2); print(@mean, 2, 3);", ""))
         self.assertEqual(self.installed.run("run", script, *parts, "--json")[:2], (0, self.whole(script, SMALL, "--json")))
         whole = self.installed.write("parts.bt", EACH)
         self.assertEqual(self.installed.run("run", whole, SMALL, "--json")[:2], (0, self.whole(whole, SMALL, "--json")))
