@@ -192,7 +192,8 @@ class OnOneOfItsOwn(WithFolder):
             status, printed, told = self.installed.run("run", self.script, f"{word}:{one}", *at)
             self.assertEqual((status, printed), (1, b""))
             machine = r"tcp://\S+ \(machine machine-, boot boot-o\w+\)"
-            self.assertRegex(told, f"^({taken})?btfleet: vm is {machine} and {machine}, " + r"which are not one host: start their workers with names of their own \(--name\)\n$")
+            why = r"which are not one host: start their workers with names of their own \(--name\)\n"
+            self.assertRegex(told, f"^({taken})?btfleet: vm is {machine} and {machine}, {why}$")
         status, printed, told = self.installed.run("run", self.script, f"web1:{one}", *at)
         self.assertEqual((status, printed), (0, b"@calls[b]: 1\n@calls[a]: 2\n\n"))
         self.assertRegex(told, f"^{taken}{result(1, 1)}$")

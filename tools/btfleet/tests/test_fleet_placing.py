@@ -39,7 +39,8 @@ def fleet(**workers):
 class Hosts(unittest.TestCase):
     def test_workers_of_one_machine_are_one_host(self):
         """By its boot and its view of the files; the name is the one that was given, or what --nworkers counts on."""
-        for names, wanted in ((["web5-0", "web5-1", "web5-2"], "web5"), (["web5"], "web5"), (["b", "a"], "a"), (["tcp://1:1", "tcp://1:2"], "vm"), ([0, 1], "vm")):
+        for names, wanted in ((["web5-0", "web5-1", "web5-2"], "web5"), (["web5"], "web5"), (["b", "a"], "a"), (["tcp://1:1", "tcp://1:2"], "vm"),
+                              ([0, 1], "vm")):
             with self.subTest(names):
                 host, = fleet(**{f"w{number}": known(name, "boot") for number, name in enumerate(names)})
                 self.assertEqual((host.name, len(host.workers)), (wanted, len(names)))

@@ -25,8 +25,8 @@ PROGRAM = real_program()
 CPUS = 4
 SEED, CASES = 89, 1000
 # Made recordings by their seeds and numbers of events, and stretches of a real one in seconds.
-MADE = [(1, 0), (2, 1), (3, 7), (4, 60), (5, 200), (6, 500)]
-STRETCHES = [(895.065, 895.075), (895.08, 895.09), (895.07, 895.11)]
+MADE = [(1, 0), (2, 9), (3, 40), (4, 60), (5, 200), (6, 500)]
+STRETCHES = [(895.0651, 895.1), (895.07, 895.1171), (895.0651, 895.11)]
 ENTER, EXIT = "tracepoint:raw_syscalls:sys_enter", "tracepoint:raw_syscalls:sys_exit"
 KEYS = ["", "comm", "pid", "cpu", "args.id", "args.id % 3", "uid", "comm, args.id % 2", "cpu, pid", '"a", comm, 0 - args.id % 4', "args.id * 0x7fff_ffff_ffff"]
 VALUES = ["args.id", "args.id - 100", "0 - args.id", "nsecs", "args.id * 0x0fff_ffff_ffff_ffff", "pid * args.id", "1", "0", "0x7fff_ffff_ffff_ffff", "{extra}"]
@@ -55,7 +55,7 @@ def script_of(chance, probe):
         value = choose(VALUES).format(extra=extra)
         body += f"{name}{f'[{key}]' if key else ''} = {call_of(word, value, choose)}; "
         end += prints_of(name, word, choose)
-    where = choose(["", "", " /args.id % 2/", " /cpu != 1/", " /args.id > 9999/"])
+    where = choose(["", "", "", "", "", " /args.id % 2/", " /cpu != 1/", " /args.id > 9999/"])
     return f"{probe}{where} {{ {body}}}" + (f" END {{ {end} }}" if end else "")
 
 
