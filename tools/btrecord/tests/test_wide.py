@@ -7,13 +7,15 @@ from collections import Counter, defaultdict
 
 from made import TOP, program
 
+from instance import FLAGS_AT, INTERRUPTS
 from reading import entries_of, opened
-from tasks import parts_of
+from tasks import parts_of, text_of
 
 WIDE = pathlib.Path(TOP, "examples", "wide.btr")
 CPUS, ROUNDS, CHILDREN = 16, 4, 4
 GETPPID, SETUID, SETGID, EXECVE = 110, 105, 106, 59
 BAD_NUMBER, NO_FILE = -9, -2
+RECORDER = 216
 MOST_BYTES = 1 << 20
 
 
@@ -89,6 +91,31 @@ class Wide(unittest.TestCase):
         self.assertEqual(found, Counter(wanted))
         programs = {(event.user, event.group) for event, _ in self.events("raw_syscalls:sys_enter", "id") if event.name.rstrip(b"\0") == b"true"}
         self.assertEqual(programs, set(children))
+
+    def test_names_are_the_kernels(self):
+        """Who is taken off a CPU has the name that the kernel tells of it, and who is renamed has the old one at that event."""
+        compared = Counter()
+        for place in range(len(self.contents.cpus)):
+            for event in entries_of(self.data, self.contents, place):
+                record = self.data[event.payload:event.end]
+                name, parts = self.parts[int.from_bytes(record[:2], "little")]
+                told = parts.get({"sched:sched_switch": b"prev_comm", "task:task_rename": b"oldcomm"}.get(name))
+                if told and (name == "sched:sched_switch" or parts[b"pid"].number(record) == event.thread):
+                    self.assertEqual(event.name.rstrip(b"\0"), text_of(told.bytes(record)), (name, event))
+                    compared[name] += 1
+                    compared["workers"] += event.name.startswith(b"kworker/")
+        self.assertEqual(len(compared), 3)
+
+    def test_what_interrupts_the_recorder_is_there(self):
+        """Of the recorder's own thread it has the switches, and of what interrupts that thread all: a block request ends there, and threads are woken."""
+        own, interrupts = set(), set()
+        for place in range(len(self.contents.cpus)):
+            for event in entries_of(self.data, self.contents, place):
+                record = self.data[event.payload:event.end]
+                if event.thread == RECORDER:
+                    (interrupts if record[FLAGS_AT] & INTERRUPTS else own).add(self.parts[int.from_bytes(record[:2], "little")][0])
+        self.assertEqual(own, {"sched:sched_switch"})
+        self.assertLessEqual({"irq:softirq_entry", "irq:irq_handler_entry", "sched:sched_wakeup", "block:block_rq_complete"}, interrupts)
 
     def test_a_part_of_each_cpu(self):
         """The parts of all CPUs together have each event once."""
