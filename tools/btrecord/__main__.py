@@ -20,6 +20,11 @@ import sys
 if sys.version_info < (3, 8):
     sys.exit("btrecord: Python %s is too old for this command, which needs 3.8" % sys.version.split()[0])
 
+# Ctrl-C ends it without a word while its modules are read, as it does later.
+FINDS_CTRL_C = signal.getsignal(signal.SIGINT) is signal.default_int_handler
+if FINDS_CTRL_C:
+    signal.signal(signal.SIGINT, signal.SIG_DFL)
+
 # Who records as root, in a folder of somebody else, leaves nothing there. What Python kept of this file it kept before it read this.
 if not sys.dont_write_bytecode:
     sys.dont_write_bytecode = True
@@ -124,6 +129,8 @@ def run_making(asked):
 def main(arguments):
     """Does what the words ask, and gives the status of README's table."""
     try:
+        if FINDS_CTRL_C:
+            signal.signal(signal.SIGINT, signal.default_int_handler)
         return run(parsed(arguments))
     except (Refused, Ended) as fault:
         tell(str(fault).split("\n"))

@@ -6,6 +6,7 @@ from faults import Refused
 from format_text import CHARS, DATA_LOC, NUMBER
 from reading import read_file
 from selection import fits, without_kind
+from users import UNKNOWN
 from values import shown
 
 MOST_NAMES = 20
@@ -69,6 +70,7 @@ def info(path):
     else:
         lines.append("events: 0")
     lines += lines_of_marks(contents)
+    lines += lines_of_users(contents)
     lines.append(f"CPUs: {len(contents.cpus)}")
     of_cpus = contents.marks.of_cpus()
     lines += [line_of_cpu(number, count, *of_cpus.get(number, (0, 0))) for number, count in contents.cpus]
@@ -88,6 +90,14 @@ def lines_of_marks(contents):
         return []
     first, last = min(marks.times) - contents.start, max(marks.times) - contents.start
     return [f"lost events: {sum(marks.counts):,} in {len(marks):,} mark{'' if len(marks) == 1 else 's'}, from {seconds(first)} to {seconds(last)}"]
+
+
+def lines_of_users(contents):
+    """A line for the events whose thread's user nobody knows, or none where all are known."""
+    found = contents.without_user
+    if not found:
+        return []
+    return [f"events without a known user: {sum(found.values()):,} of {len(found):,} thread{'' if len(found) == 1 else 's'}, with the user {UNKNOWN}"]
 
 
 def line_of_cpu(number, entries, marks, lost):

@@ -7,6 +7,12 @@ from faults import WORDS, Refused
 from spool import Spool
 
 PREFIX = "btrecord-"
+# The bits of an event's common_flags that tell of an interrupt: a hard one, a soft one, and one that can't be masked.
+INTERRUPTS = 0x08 | 0x10 | 0x40
+# Where the flags stand in a record.
+FLAGS_AT = 2
+# What happens between the thread that runs and another one.
+BETWEEN_THREADS = {("sched", event) for event in ("sched_switch", "sched_waking", "sched_wakeup", "sched_wakeup_new")}
 # The process, when it started (earlier versions left this out), and which of its two instances it is.
 OWN_NAME = re.compile(r"btrecord-(\d+)(?:-(\d+))?(?:-tasks)?")
 DEAD_STATES = "ZX"
@@ -38,6 +44,11 @@ def started(process, proc="/proc"):
     except (FileNotFoundError, ProcessLookupError):
         return None
     return None if fields[0] in DEAD_STATES else int(fields[19])
+
+
+def own_filter():
+    """The expression that leaves out what this thread does, and keeps what interrupts it."""
+    return f"common_pid != {os.getpid()} || common_flags & {INTERRUPTS}"
 
 
 def own_name():
@@ -114,16 +125,16 @@ class Ring:
 class Instance:
     """An instance with some events, which goes away with its block; `stays` tells where it could not.
 
-    Events that may not be enabled stand in `left_out`, with the cause.
+    Events that may not be enabled stand in `left_out`, with the cause. Each page that is read is shown to `see`.
     """
 
-    def __init__(self, path, shape, page_bytes):
+    def __init__(self, path, shape, page_bytes, see=lambda page: None):
         self.path = path
+        self.see = see
         self.shape = shape
         self.page_bytes = page_bytes
         self.rings = {}
         self.left_out = {}
-        self.filtered = False
         self.stays = None
 
     def __enter__(self):
@@ -134,7 +145,7 @@ class Instance:
         return self
 
     def set_up(self, kilobytes, folder):
-        """Makes the rings, and leaves this process out where the kernel can."""
+        """Makes the rings."""
         write(f"{self.path}/tracing_on", "0")
         write(f"{self.path}/trace_clock", "mono")
         try:
@@ -142,11 +153,8 @@ class Instance:
         except Refused as refused:
             raise Refused(f"{refused}; ask for less by --buffer-kb") from refused
         for cpu in self.cpus():
-            self.rings[cpu] = Ring(f"{self.path}/per_cpu/cpu{cpu}", self.page_bytes, Spool(folder, self.shape))
+            self.rings[cpu] = Ring(f"{self.path}/per_cpu/cpu{cpu}", self.page_bytes, Spool(folder, self.shape, self.see))
         self.most = kilobytes * 1024 // self.page_bytes + 2
-        if os.path.exists(f"{self.path}/set_event_notrace_pid"):
-            write(f"{self.path}/set_event_notrace_pid", str(os.getpid()))
-            self.filtered = True
 
     def follow(self, threads_of):
         """Has only those threads recorded that `threads_of` answers, and what they start. They are asked for until no more come."""
@@ -165,6 +173,21 @@ class Instance:
             except Refused as refused:
                 told = contents(path).decode(errors="replace").rstrip() if "parse_error" in contents(path).decode(errors="replace") else str(refused)
                 raise Refused(f"--filter {system}:{event}: the kernel does not take it:\n{told}", WORDS) from refused
+
+    def filter_own(self, pairs, expressions):
+        """Has the kernel leave out what this thread does, and keep what interrupts it, beside the expression of a tracepoint where it has one.
+
+        What happens between this thread and others is kept. Where the kernel does not take a filter, such events are left out later.
+        """
+        for system, event in pairs:
+            if (system, event) in BETWEEN_THREADS:
+                continue
+            path, expression = f"{self.path}/events/{system}/{event}/filter", expressions.get((system, event))
+            try:
+                write(path, f"({expression}) && ({own_filter()})" if expression else own_filter())
+            except Refused:
+                # The kernel keeps no filter where it does not take one.
+                write(path, expression) if expression else None
 
     def enable(self, pairs, go_on=lambda: None):
         """Enables events, and asks between two whether to go on. Answers those that are enabled."""

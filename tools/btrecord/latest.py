@@ -5,9 +5,9 @@ from collections import deque
 
 import container
 from container import EVENT, EVENT_BYTE, MARK
+from looks import Looks, changes_in
 from output import nameless
 from spool import windows
-from tasks import Looks, changes_in
 
 AGAIN_SECONDS = 10
 MOST_ROLLING = 1 << 23
@@ -16,14 +16,14 @@ MOST_ROLLING = 1 << 23
 class RollingLooks(Looks):
     """Looks at threads without an end: who did not change is not written again, and of what was written the latest part is kept."""
 
-    def __init__(self, folder, proc="/proc"):
-        super().__init__(folder, proc)
+    def __init__(self, folder, proc="/proc", clock=lambda: 0):
+        super().__init__(folder, proc, clock)
         self.folder = folder
         self.older = None
         self.last = {}
         self.again = 0
 
-    def look(self, now, due=float("inf")):
+    def look(self, now=None, due=float("inf")):
         """Looks at new threads, and every few seconds at all, since the kernel's word of a new name may be overwritten."""
         if self.bytes > MOST_ROLLING:
             self.older, self.file, self.bytes = self.file, nameless(self.folder), 0

@@ -7,6 +7,7 @@ import mmap
 import os
 import struct
 from array import array
+from collections import deque
 from dataclasses import dataclass, field
 
 from assembly import Assembly
@@ -14,7 +15,7 @@ from container import format_of, test_formats
 from faults import READ, Ended, Refused, of_file
 from record import Made
 from signals import Signals, name_of
-from tasks import Change, Tasks, text_of
+from tasks import Change, Renaming, Tasks, text_of
 
 TRACEPOINT = 2
 TRACING_DATA = 1
@@ -350,10 +351,10 @@ def take_other(found, data, where, what, layouts):
     r = Reader(data[where[0]:where[1]], 0, "a record")
     if kind == RECORD_COMM:
         process, thread = r.number(4), r.number(4)
-        found.changes.append(Change(layouts.time_of(data, *where), thread, process, name=text_of(r.data[8:])[:15]))
+        found.changes.append((where[0], Change(layouts.time_of(data, *where), thread, process, name=text_of(r.data[8:])[:15])))
     elif kind == RECORD_FORK:
         process, _, thread, parent = (r.number(4) for _ in range(4))
-        found.changes.append(Change(layouts.time_of(data, *where), thread, process, parent=parent))
+        found.changes.append((where[0], Change(layouts.time_of(data, *where), thread, process, parent=parent)))
     elif kind == RECORD_LOST or kind == RECORD_LOST_SAMPLES and not misc & LOST_BY_FILTER:
         take_loss(found, data, where, kind, layouts)
     elif kind == RECORD_AUXTRACE:
@@ -422,8 +423,9 @@ def convert(path, folder, open_output, data=None, with_marks=True):
 
 
 def assemble(data, found, layouts, assembly, signals):
-    """Puts the samples and the losses into the assembly by their times, those of one time as they stood."""
-    tasks = Tasks(sorted(found.changes, key=lambda change: change.time))
+    """Puts the samples and the losses into the assembly by their times, those of one time as they stood, and so what is told of threads."""
+    tasks, renaming = Tasks((), 0), Renaming(assembly.formats)
+    changes = deque(sorted(found.changes, key=lambda placed: (placed[1].time, placed[0])))
     for handled, k in enumerate(sorted(range(len(found.times)), key=found.times.__getitem__)):
         if handled % EVENTS_BETWEEN_SIGNALS == 0:
             came = signals.wait(0)
@@ -442,6 +444,8 @@ def assemble(data, found, layouts, assembly, signals):
         if assembly.is_full:
             assembly.miss(cpu, 1, found.times[k])
             continue
-        tasks.go_to(found.times[k])
-        head = tasks.at(thread, cpu)._replace(process=process).head(thread)
-        assembly.take(cpu, found.times[k], head, raw_record(data, at, end, a))
+        while changes and (changes[0][1].time, changes[0][0]) < (found.times[k], at):
+            tasks.take(changes.popleft()[1])
+        record = raw_record(data, at, end, a)
+        task = renaming.own(tasks.at(thread, cpu), thread, record)
+        assembly.take(cpu, found.times[k], task._replace(process=process).head(thread), record)

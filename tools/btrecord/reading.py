@@ -15,6 +15,7 @@ import container
 from container import CPU, EVENT, EVENT_KIND, HEADER, MARK, MARK_KIND, SYSTEM, VERSIONS, Format
 from faults import READ, RECORDING, Refused, of_file
 from format_text import BadFormat, layout_of
+from users import UNKNOWN
 
 
 class BadRecording(Exception):
@@ -47,7 +48,8 @@ class Marks:
 @dataclass(frozen=True)
 class Contents:
     """A recording beside its entries, which are events and marks of lost events: its version, its span, its formats in their order, each
-    CPU's number and how many entries it has, where these begin, and each mark, as its CPU, time and count."""
+    CPU's number and how many entries it has, where these begin, and each mark, as its CPU, time and count. Of each thread whose user or group
+    is not known in some events, how many these are."""
 
     start: int
     end: int
@@ -56,6 +58,7 @@ class Contents:
     begins: list = field(default_factory=list)
     version: int = 1
     marks: Marks = field(default_factory=Marks)
+    without_user: Counter = field(default_factory=Counter)
 
 
 class Mark(NamedTuple):
@@ -144,7 +147,7 @@ def read_entries(data, at, cpu, count, contents, take):
             at += 1
         if at + head > length:
             raise BadRecording(f"C1 truncated at byte {length}")
-        time, process, _, _, _, name, size = unpack(data, at)
+        time, process, thread, user, group, name, size = unpack(data, at)
         payload = at + head
         at = payload + size
         if at > length:
@@ -159,6 +162,8 @@ def read_entries(data, at, cpu, count, contents, take):
         if size < sizes[which]:
             raise BadRecording(f"C9 short payload in event {entry} of cpu {place}")
         least = time
+        if UNKNOWN in (user, group):
+            contents.without_user[thread] += 1
         take(number, time, process, name, which)
     return at
 

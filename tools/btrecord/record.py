@@ -12,20 +12,26 @@ from dataclasses import dataclass, field
 
 import container
 from assembly import Assembly
+from behind import Behind
 from command import Command
 from container import Lost, format_of, test_formats
 from faults import WORDS, WRITE, Ended, Refused, of_file
-from instance import Instance, contents, own_name, remove_left, started
+from instance import FLAGS_AT, INTERRUPTS, Instance, contents, own_name, remove_left, started, write
 from latest import RollingLooks, fits_from, whole_from
 from life import Silence, Signs, told_growing, told_rolling, told_start
+from looks import Looks
 from ring import Losses, Records, page_shape
 from signals import Signals, name_of
 from spool import windows
-from tasks import Looks, Tasks, task_changes
+from tasks import Renaming, Tasks, call_changes, task_changes
 from tracepoints import chosen, matching
+from users import CALLS, COMPAT_FILTER, COMPAT_MACHINES, UNKNOWN
 
 PLACES = ["/sys/kernel/tracing", "/sys/kernel/debug/tracing"]
-TASK_EVENTS = ["task_newtask", "task_rename"]
+# What tells of threads: their beginnings and names, their execs, and the calls that may change their users.
+TASK_EVENTS = [("task", "task_newtask"), ("task", "task_rename"), ("sched", "sched_process_exec")]
+CALL_EVENTS = [("syscalls", f"sys_{side}_{call}") for call in CALLS for side in ("enter", "exit")]
+COMPAT_EVENT = ("raw_syscalls", "sys_exit")
 TASK_KILOBYTES = 1024
 LEAST_KILOBYTES, MOST_KILOBYTES = 64, 1_048_576
 ROUND_SECONDS = 0.025
@@ -83,6 +89,7 @@ class Recorded:
     read: dict = field(default_factory=dict)
     lost: dict = field(default_factory=dict)
     uncounted: dict = field(default_factory=dict)
+    tasks_lost: int = 0
     overwritten: int = 0
     signal: int = None
     cause: str = None
@@ -95,6 +102,8 @@ class Recorder:
         self.main = main
         self.tasks = tasks
         self.looks = looks
+        self.behind = None
+        self.tell_start = lambda: None
         self.signals = signals
         self.target = target or Target()
         self.signs = signs or Silence()
@@ -115,11 +124,12 @@ class Recorder:
         Once nothing more is kept, steps of what is to be done then are made.
         """
         self.tasks.switch(True)
-        self.looks.look(0)
+        self.looks.look()
         self.done.start = nanoseconds()
         began = time.monotonic()
         due = began + seconds if seconds else float("inf")
         self.main.switch(True)
+        self.tell_start()
         self.target.begin()
         while not self.done.signal and not self.done.cause and time.monotonic() < due:
             is_busy = next(steps, None) if self.done.full_at else self.is_pressed
@@ -134,7 +144,7 @@ class Recorder:
         self.target.end()
         if not self.done.full_at:
             self.main.drain()
-            self.tasks.drain()
+            self.drain_tasks()
         self.count()
 
     def round(self, due):
@@ -142,8 +152,8 @@ class Recorder:
         now = nanoseconds()
         self.is_pressed = self.main.drain(True, due) > self.main.most / PRESSING
         if sum(ring.spool.bytes for ring in self.tasks.rings.values()) < container.MOST_BYTES:
-            self.tasks.drain(True, due)
-        self.look(now, due)
+            self.drain_tasks(True, due)
+        self.look(due)
         if self.signs.is_due():
             self.show()
         if self.is_enough:
@@ -151,14 +161,24 @@ class Recorder:
             self.done.full_at = now
             self.done.lost = {cpu: lost for cpu, (_, _, lost) in self.main.counts_of_cpus().items()}
             self.tasks.switch(False)
+            self.drain_tasks()
             print(f"btrecord: the recording is full after {(now - self.done.start) / 1e9:.3f} s; what comes now is only counted", file=sys.stderr)
         self.is_enough = self.holds_enough()
 
-    def look(self, now, due):
-        """Looks at the threads that live, where it is time to."""
+    def drain_tasks(self, is_tracing=False, due=float("inf")):
+        """Keeps what is told of threads, and looks right behind the calls that may have changed their users."""
+        self.tasks.drain(is_tracing, due)
+        if self.behind:
+            until = min(due, time.monotonic() + LOOK_SECONDS)
+            self.behind.look(lambda: time.monotonic() >= until)
+
+    def look(self, due):
+        """Looks at the threads that live, where it is time to: at those that are new, or at all where no events tell of their users."""
         if time.monotonic() >= self.next_look:
             began = time.monotonic()
-            self.looks.look(now, min(due, began + LOOK_SECONDS))
+            if not self.behind:
+                self.looks.known = set()
+            self.looks.look(None, min(due, began + LOOK_SECONDS))
             self.next_look = time.monotonic() + max(LOOK_SECONDS, (time.monotonic() - began) / LOOK_SHARE)
 
     def show(self):
@@ -178,6 +198,7 @@ class Recorder:
     def count(self):
         """What the kernel counted; behind the time at which the recording was full nothing is lost, but not kept."""
         counts = self.main.counts_of_cpus()
+        self.done.tasks_lost = self.tasks.counts()[2]
         self.done.read = {cpu: read for cpu, (read, _, _) in counts.items()}
         if self.done.full_at:
             self.done.uncounted = {cpu: entries + lost - self.done.lost[cpu] for cpu, (_, entries, lost) in counts.items()}
@@ -198,7 +219,7 @@ class LatestRecorder(Recorder):
 
     def round(self, due):
         """Looks at the threads alone."""
-        self.look(nanoseconds(), due)
+        self.look(due)
         if self.signs.is_due():
             self.show()
 
@@ -211,6 +232,7 @@ class LatestRecorder(Recorder):
     def count(self):
         """What the kernel counted. What was overwritten is not lost, since later events were wanted."""
         counts, overwritten = self.main.counts_of_cpus(), self.main.overwritten_of_cpus()
+        self.done.tasks_lost = self.tasks.counts()[2] - self.tasks.overwritten()
         self.done.read = {cpu: read for cpu, (read, _, _) in counts.items()}
         self.done.overwritten = sum(overwritten.values())
         self.done.lost = {cpu: lost - overwritten[cpu] for cpu, (_, _, lost) in counts.items()}
@@ -308,6 +330,7 @@ class Joining:
         self.with_marks = with_marks
         self.assembly = None
         self.own = 0
+        self.renaming = Renaming(formats)
         self.handled = Counter()
         self.begin = 0
         self.before = Counter()
@@ -336,15 +359,16 @@ class Joining:
         done, main = self.recorder.done, self.recorder.main
         self.assembly = Assembly(self.formats, cpus_of(main), self.folder, self.with_marks)
         self.losses = self.recorder.losses()
-        of_kernel = task_changes(self.texts, windows(self.recorder.tasks.spools()))
-        self.tasks = Tasks(heapq.merge(self.recorder.looks.changes(), of_kernel, key=lambda change: change.time))
+        of_tasks, looks = self.recorder.tasks.spools(), self.recorder.looks
+        of_calls = call_changes(self.texts, windows(of_tasks), looks.behind)
+        self.tasks = Tasks(heapq.merge(looks.changes(), task_changes(self.texts, windows(of_tasks)), of_calls, key=lambda change: change.time))
         latest = done.full_at or float("inf")
         for until, found in windows(main.spools(), lambda time: self.tasks.until(min(time, latest))):
             found = self.later(found)
-            self.assembly.take_window([(cpu, of.times, [self.tasks.head(thread, cpu) for thread in of.threads], of.payloads) for cpu, of in found])
+            self.assembly.take_window([(cpu, of.times, self.renaming.heads(self.tasks, cpu, of), of.payloads) for cpu, of in found])
             for cpu, of in found:
                 self.handled[cpu] += len(of.times) - sum(isinstance(payload, Lost) for payload in of.payloads)
-            self.own += sum(of.threads.count(os.getpid()) for _, of in found)
+            self.own += sum(own_events(of) for _, of in found)
             if until == latest or self.assembly.is_full:
                 return
             self.tasks.go_to(until + 1)
@@ -364,7 +388,22 @@ class Joining:
         handled = sum(self.handled.values())
         share = f"{self.own:,} of the {handled:,} ({100 * self.own / max(handled, 1):.1f} %) are btrecord's own"
         notes = [share] if self.own else []
-        return notes + ([f"nothing is known of {len(self.tasks.unknown):,} threads"] if self.tasks.unknown else [])
+        notes += [f"nothing is known of {len(self.tasks.unknown):,} threads"] if self.tasks.unknown else []
+        notes += [told_without_user(self.tasks)] if self.tasks.without_user else []
+        return notes + ([f"{done.tasks_lost:,} events that tell of threads and their users were lost"] if done.tasks_lost else [])
+
+
+def own_events(of):
+    """How many events of a CPU are this thread's own, without those that interrupt it."""
+    own = os.getpid()
+    if own not in of.threads:
+        return 0
+    return sum(thread == own and not payload[FLAGS_AT] & INTERRUPTS for thread, payload in zip(of.threads, of.payloads))
+
+
+def told_without_user(tasks):
+    """That users are not known, which are UNKNOWN in the recording."""
+    return f"for a time the users of {len(tasks.without_user):,} threads are not known, and are {UNKNOWN} there"
 
 
 def record(asked, open_output):
@@ -402,17 +441,22 @@ def recorded(top, asked, wanted, filters, output, signals, target, notes):
     """Records, and writes the recording once its instances are gone."""
     shape = page_shape(contents(f"{top}/events/header_page").decode())
     size = page_bytes(top)
-    watched = [("task", event) for event in TASK_EVENTS if os.path.exists(f"{top}/events/task/{event}")]
+    watched = watched_in(top)
     texts = [format_of(system.encode(), contents(f"{top}/events/{system}/{event}/format")) for system, event in watched]
     path = f"{top}/instances/{own_name()}"
-    main, tasks = Instance(path, shape, size), Instance(f"{path}-tasks", shape, size)
-    looks = (RollingLooks if asked.keeps_latest else Looks)(output.folder)
+    looks = (RollingLooks if asked.keeps_latest else Looks)(output.folder, clock=nanoseconds)
+    behind = Behind(texts, shape, looks)
+    main, tasks = Instance(path, shape, size), Instance(f"{path}-tasks", shape, size, behind.see)
     recorder = (LatestRecorder if asked.keeps_latest else Recorder)(main, tasks, looks, signals, target, Signs(is_shared=bool(asked.command)) if asked.tell else None)
+    recorder.behind = behind if behind.numbers else None
     with contextlib.ExitStack() as stack:
+        # The instance of tasks is the first: so what a call changes is known when the same event comes to the other one.
         for instance, kilobytes, pairs in [(tasks, TASK_KILOBYTES, watched), (main, asked.kilobytes, wanted.pairs)]:
             stack.enter_context(instance).set_up(kilobytes, output.folder)
             if instance is main:
-                narrow(main, asked, filters, target)
+                narrow(main, asked, filters, target, wanted.pairs)
+            elif COMPAT_EVENT in watched:
+                write(f"{tasks.path}/events/raw_syscalls/sys_exit/filter", COMPAT_FILTER)
             enabled = set(instance.enable(pairs, recorder.go_on))
         formats = [format for pair, format in zip(wanted.pairs, wanted.formats) if pair in enabled]
         if not formats:
@@ -420,7 +464,7 @@ def recorded(top, asked, wanted, filters, output, signals, target, notes):
         joining = Joining(recorder, texts, formats, output.folder, asked.with_marks)
         steps = joining.steps()
         if asked.tell:
-            asked.tell([told_start(asked, len(formats), len(online() & set(main.rings)), output.name)])
+            recorder.tell_start = lambda: asked.tell([told_start(asked, len(formats), len(online() & set(main.rings)), output.name)])
         recorder.run(asked.seconds, steps)
         if asked.keeps_latest:
             joining.keep_latest()
@@ -429,12 +473,23 @@ def recorded(top, asked, wanted, filters, output, signals, target, notes):
     return written(recorder.done, joining, steps, output, asked, notes)
 
 
-def narrow(main, asked, filters, target):
-    """Has the kernel keep only what is asked for."""
+def watched_in(top):
+    """The tracepoints that tell of threads, of those that a kernel has."""
+    found = [(system, event) for system, event in TASK_EVENTS + CALL_EVENTS if os.path.exists(f"{top}/events/{system}/{event}")]
+    has_calls = any(pair in CALL_EVENTS for pair in found) and os.path.exists(f"{top}/events/{'/'.join(COMPAT_EVENT)}")
+    return found + ([COMPAT_EVENT] if has_calls and os.uname().machine in COMPAT_MACHINES else [])
+
+
+def narrow(main, asked, filters, target, pairs):
+    """Has the kernel keep only what is asked for, and of this thread what interrupts it."""
+    expressions = {}
+    for of, expression in filters:
+        main.filter(of, expression)
+        expressions.update(dict.fromkeys(of, expression))
     if asked.is_of_some:
         main.follow(target.threads)
-    for pairs, expression in filters:
-        main.filter(pairs, expression)
+    else:
+        main.filter_own(pairs, expressions)
 
 
 def written(done, joining, steps, output, asked, notes):

@@ -11,9 +11,11 @@ PAGES_AT_ONCE = 16
 
 
 class Spool:
-    """The pages of one CPU's ring, in the order in which they were read. Marks stand among its records where `has_marks` holds."""
+    """The pages of one CPU's ring, in the order in which they were read, each of which is shown to `see`. Marks stand among its records where
+    `has_marks` holds."""
 
-    def __init__(self, folder, shape):
+    def __init__(self, folder, shape, see=lambda page: None):
+        self.see = see
         self.file = nameless(folder)
         self.shape = shape
         self.bytes = 0
@@ -27,6 +29,7 @@ class Spool:
             whole = self.shape.whole(page)
             self.file.write(LENGTH.pack(len(whole)) + whole)
             self.bytes += end - self.shape.data
+            self.see(whole)
             self.losses.see(self.shape.lost_before(page), so_far)
 
     def pages(self):

@@ -9,11 +9,11 @@ from assembly import Assembly
 from container import Lost, format_of, test_formats
 from faults import Ended, Refused
 from perfdata import Reader
-from record import TASK_EVENTS, Made
+from record import Made
 from ring import Losses, page_shape
 from signals import Signals, name_of
 from spool import chunks_of, windows
-from tasks import Change, Tasks, task_changes
+from tasks import Change, Renaming, Tasks, task_changes
 from unpacking import Packing, blocks_of_cpu
 
 MAGIC = b"\x17\x08\x44tracing"
@@ -241,8 +241,8 @@ def names_in(lines):
 
 def assemble(found, formats, assembly, signals):
     """Puts the events into the assembly, and answers for how many threads nothing is known."""
-    texts = [format for format in formats if format.name in [f"task:{event}" for event in TASK_EVENTS]]
-    tasks = Tasks([*names_in(found.names), *(task_changes(texts, windows(found.cpus)) if texts else ())])
+    texts = [format for format in formats if format.name in ("task:task_newtask", "task:task_rename")]
+    tasks, renaming = Tasks([*names_in(found.names), *(task_changes(texts, windows(found.cpus)) if texts else ())], 0), Renaming(formats)
     # What tells of tasks was read before there are marks among the records.
     for cpu, pages in found.cpus.items():
         pages.find_losses(found.lost.get(f"CPU: {cpu}", 0))
@@ -253,7 +253,7 @@ def assemble(found, formats, assembly, signals):
         if assembly.is_full:
             pass_over(window, assembly)
         else:
-            assembly.take_window([(cpu, of.times, [tasks.head(thread, cpu) for thread in of.threads], of.payloads) for cpu, of in window])
+            assembly.take_window([(cpu, of.times, renaming.heads(tasks, cpu, of), of.payloads) for cpu, of in window])
         tasks.go_to(until + 1)
     for cpu, pages in found.cpus.items():
         if pages.losses.at_end:

@@ -99,11 +99,10 @@ def rust_table(path, name):
 class Kernel:
     """A tree of files that stands for a tracefs with the tracepoint demo:tick, and with pages in the rings of its instances."""
 
-    def __init__(self, top, pages=None, stats="", has_filter=True):
+    def __init__(self, top, pages=None, stats=""):
         self.top = top
         self.pages = pages or {0: []}
         self.stats = stats
-        self.has_filter = has_filter
         self.refused = set()
         self.removed = {}
         self.real = os.mkdir, os.rmdir
@@ -135,8 +134,6 @@ class Kernel:
         for folder, _, files in os.walk(f"{self.top}/events"):
             if "enable" in files and folder not in self.refused:
                 self.put(f"{inside}/{os.path.relpath(folder, self.top)}/enable", b"0")
-        if self.has_filter:
-            self.put(f"{inside}/set_event_notrace_pid")
         self.put(f"{inside}/set_event_pid")
         self.put(f"{inside}/options/event-fork", b"0")
 

@@ -158,7 +158,8 @@ class Filters(Tree):
     def test_the_kernel_has_them(self):
         self.kernel.add("demo", "tock", OTHER_TEXT)
         self.record(0.1, filters=[("demo:t*", "n > 5")])
-        self.assertEqual(self.own()["events/demo/tick/filter"], b"n > 5")
+        own = f"common_pid != {os.getpid()} || common_flags & 88"
+        self.assertEqual(self.own()["events/demo/tick/filter"].decode(), f"(n > 5) && ({own})")
         self.assertNotIn("events/demo/tock/filter", self.own())
 
     def test_what_the_kernel_says_against_one_is_told(self):

@@ -87,6 +87,11 @@ class PerfFiles(unittest.TestCase):
         self.assertEqual([(f.system, f.text) for f in self.contents.formats], [(b"demo", TEXT)])
         self.assertEqual((self.contents.start, self.contents.end), (10, 30))
 
+    def test_a_new_name_holds_behind_the_record_that_tells_it(self):
+        """Also where the times are the same, which come from a coarse clock."""
+        made, events = self.converted(perf_file(records=comm(0, 1235, b"old") + sample(20, 0, payload()) + comm(20, 1235, b"new") + sample(20, 0, payload())))
+        self.assertEqual(events, [(0, 20, 1234, b"old"), (0, 20, 1234, b"new")])
+
     def test_a_loss_is_told_once(self):
         lost, again = part(2, struct.pack("<QQ", 1, 4)) + part(2, struct.pack("<QQ", 1, 5)), part(13, struct.pack("<Q", 9))
         filtered = struct.pack("<IHHQ", 13, 1 << 15, 16, 100)

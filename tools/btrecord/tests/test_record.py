@@ -61,7 +61,8 @@ class Recording(unittest.TestCase):
         self.assertEqual(sorted(os.listdir(os.path.dirname(self.path))), ["r.btr", "tracing"])
         own = kernel.removed[own_name()]
         self.assertEqual((own["events/demo/tick/enable"], own["tracing_on"], own["trace_clock"], own["buffer_size_kb"]), (b"1", b"0", b"mono", b"64"))
-        self.assertEqual(own["set_event_notrace_pid"], str(os.getpid()).encode())
+        # What this thread does is left out, and what interrupts it (hard, soft and unmaskable interrupts: the bits 8, 16 and 64) is kept.
+        self.assertEqual(own["events/demo/tick/filter"].decode(), f"common_pid != {os.getpid()} || common_flags & 88")
 
     def test_the_time_is_kept_while_there_is_always_more(self):
         kernel = Kernel(self.top, {0: [ticks(1, payload())] * 2000})
@@ -76,7 +77,7 @@ class Recording(unittest.TestCase):
         self.assertLess(took, most)
 
     def test_its_own_share_is_told(self):
-        kernel = Kernel(self.top, {0: [ticks(1, payload(os.getpid()), payload(1 << 30), payload(os.getpid()), payload(0))]}, has_filter=False)
+        kernel = Kernel(self.top, {0: [ticks(1, payload(os.getpid()), payload(1 << 30), payload(os.getpid()), payload(0))]}, )
         made, events = self.record(kernel)
         self.assertEqual(len(events), 4)
         self.assertTrue(any(note.startswith("2 of the 4 (50.0 %)") for note in made.notes), made.notes)

@@ -11,9 +11,10 @@ from made import DEMO, HEADER_PAGE, NEWTASK, RENAME, lost, missed, page, payload
 from container import format_of
 from faults import Refused
 from instance import Ring
+from looks import Looks
 from ring import UNKNOWN, Losses, Records, page_shape, take_records
 from spool import Spool, windows
-from tasks import Change, Looks, Task, Tasks, task_changes
+from tasks import Change, Task, Tasks, task_changes
 
 SHAPE = page_shape(HEADER_PAGE)
 FULL = ticks(1, *[payload()] * 200)
@@ -171,7 +172,7 @@ class Threads(unittest.TestCase):
     def at(self, tasks, time, thread, cpu=0):
         """A thread at a time."""
         tasks.go_to(time)
-        return tasks.at(thread, cpu)
+        return tasks.at(thread, cpu)[:4]
 
     def test_names_change_with_time(self):
         tasks = Tasks([Change(0, 7, 5, 1000, 100, b"old"), Change(20, 7, name=b"new")])
@@ -190,9 +191,10 @@ class Threads(unittest.TestCase):
 
     def test_idle_and_unknown_threads(self):
         tasks = Tasks([])
-        self.assertEqual(tasks.at(0, 3), (0, 0, 0, b"swapper/3"))
+        self.assertEqual(tasks.at(0, 3)[:4], (0, 0, 0, b"swapper/3"))
         self.assertEqual([tasks.head(0, cpu)[16:25] for cpu in (0, 1)], [b"swapper/0", b"swapper/1"])
-        self.assertEqual(tasks.at(77, 3), (77, 0, 0, b"<...>"))
+        self.assertEqual(tasks.at(77, 3)[:4], (77, 0xFFFFFFFF, 0xFFFFFFFF, b"<...>"))
+        self.assertEqual(Tasks([], 0).at(77, 3)[:4], (77, 0, 0, b"<...>"))
         self.assertEqual(tasks.unknown, {77})
 
     def test_a_look_at_a_folder_like_proc(self):
@@ -205,7 +207,7 @@ class Threads(unittest.TestCase):
             looks = Looks(folder, proc=folder)
             looks.look(5)
             looks.look(6)
-            self.assertEqual(list(looks.changes()), [Change(5, 42, 41, 7, 6, b"a name")])
+            self.assertEqual(list(looks.changes()), [Change(5, 42, 41, 7, 6, b"a name", is_initial=True)])
             looks = Looks(folder, proc=folder)
             looks.look(5, time.monotonic() - 1)
             self.assertEqual(list(looks.changes()), [])
@@ -217,7 +219,7 @@ class Threads(unittest.TestCase):
         formats = [format_of(b"task", text) for text in (NEWTASK, RENAME)] + [DEMO]
         window = [(0, Records([1, 3], [7, 9], [process, renamed])), (1, Records([2], [7], [thread]))]
         self.assertEqual(list(task_changes(formats, [(3, window)])), [
-            Change(1, 8, 8, name=b"sh", parent=7), Change(2, 9, None, name=b"sh", parent=7), Change(3, 9, name=b"worker")])
+            Change(1, 8, 8, name=b"sh", parent=7), Change(2, 9, None, name=b"sh", parent=7), Change(4, 9, name=b"worker")])
 
     def test_a_thread_as_it_stands_in_an_event(self):
         self.assertEqual(Task(1, 2, 3, b"a name that is too long").head(4), struct.pack("<IIII", 1, 4, 2, 3) + b"a name that is t")
