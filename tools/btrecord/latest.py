@@ -43,7 +43,9 @@ class RollingLooks(Looks):
         """What was found, by time."""
         if self.older:
             yield from changes_in(self.older)
-        yield from changes_in(self.file)
+            yield from changes_in(self.file)
+        else:
+            yield from super().changes()
 
 
 def whole_from(main):

@@ -74,6 +74,7 @@ class Looks:
         self.own = namespace_of(f"{proc}/self")
         self.known = set()
         self.bytes = 0
+        self.first_bytes = 0
         self.behind = {}
         self.count_behind = 0
 
@@ -88,6 +89,11 @@ class Looks:
             if thread in self.known or self.take(now, thread, process):
                 seen.add(thread)
         self.known = seen
+
+    def look_first(self):
+        """Looks at all threads. What they start meanwhile, before they are looked at themselves, has what they have."""
+        self.look()
+        self.first_bytes = self.bytes
 
     def take(self, now, thread, process):
         """Looks at one thread, and tells whether it was there."""
@@ -121,13 +127,15 @@ class Looks:
         self.bytes += LOOK.size
 
     def changes(self):
-        """What was found, by time."""
-        return changes_in(self.file)
+        """What was found, by time; what the first look showed holds from the start on."""
+        for change in changes_in(self.file, self.first_bytes):
+            yield change._replace(time=0)
+        yield from changes_in(self.file)
 
 
-def changes_in(file):
-    """The changes of looks that were written to a file."""
+def changes_in(file, most=None):
+    """The changes of looks that were written to a file, or of so many of its bytes."""
     file.seek(0)
-    while found := file.read(LOOK.size):
+    while (most is None or file.tell() < most) and (found := file.read(LOOK.size)):
         now, thread, process, user, group, is_initial, name = LOOK.unpack(found)
         yield Change(now, thread, process, user, group, text_of(name), is_initial=bool(is_initial))

@@ -124,7 +124,7 @@ class Recorder:
         Once nothing more is kept, steps of what is to be done then are made.
         """
         self.tasks.switch(True)
-        self.looks.look()
+        self.looks.look_first()
         self.done.start = nanoseconds()
         began = time.monotonic()
         due = began + seconds if seconds else float("inf")

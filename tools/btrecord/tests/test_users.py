@@ -163,6 +163,22 @@ class LooksBehind(unittest.TestCase):
         behind.look()
         self.assertEqual((looks.behind, list(behind.waiting)), ({7: [Seen(1, 2, 1000, 6, True)]}, []))
 
+    def test_what_the_first_look_shows_holds_from_the_start_on(self):
+        """A thread may start another one before the first look comes to it, and that one may be gone before it is looked at."""
+        path = pathlib.Path(self.folder, "7", "task", "7")
+        path.mkdir(parents=True)
+        for name, text in [("status", "Uid:\t5\nGid:\t6\n"), ("comm", "x\n")]:
+            (path / name).write_text(text)
+        self.now = 50
+        looks = Looks(self.folder, self.folder, self.clock)
+        looks.look_first()
+        (path.parent.parent / "task" / "7").rename(path.parent / "8")
+        looks.look()
+        self.assertEqual([(change.time, change.thread, change.user) for change in looks.changes()], [(0, 7, 5), (51, 7, 5), (52, 8, 5)])
+        tasks = Tasks(sorted([*looks.changes(), *task_changes(FORMATS, windows_of((40, forked(7, 9))))], key=lambda change: change.time))
+        tasks.go_to(45)
+        self.assertEqual(tasks.at(9, 0)[:3], (9, 5, 6))
+
     def test_the_namespace_of_a_look(self):
         here, there = os.stat(self.folder).st_ino, pathlib.Path(self.folder, "there")
         there.write_text("")
