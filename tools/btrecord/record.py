@@ -25,7 +25,7 @@ from signals import Signals, name_of
 from spool import windows
 from tasks import Renaming, Tasks, call_changes, task_changes
 from tracepoints import chosen, matching
-from users import CALLS, COMPAT_FILTER, COMPAT_MACHINES, UNKNOWN
+from users import CALLS, COMPAT_FILTER, COMPAT_SETTINGS, UNKNOWN
 
 PLACES = ["/sys/kernel/tracing", "/sys/kernel/debug/tracing"]
 # What tells of threads: their beginnings and names, their execs, and the calls that may change their users.
@@ -477,7 +477,12 @@ def watched_in(top):
     """The tracepoints that tell of threads, of those that a kernel has."""
     found = [(system, event) for system, event in TASK_EVENTS + CALL_EVENTS if os.path.exists(f"{top}/events/{system}/{event}")]
     has_calls = any(pair in CALL_EVENTS for pair in found) and os.path.exists(f"{top}/events/{'/'.join(COMPAT_EVENT)}")
-    return found + ([COMPAT_EVENT] if has_calls and os.uname().machine in COMPAT_MACHINES else [])
+    return found + ([COMPAT_EVENT] if has_calls and runs_32_bit_programs() else [])
+
+
+def runs_32_bit_programs(machine=os.uname().machine, path="/proc/sys/abi"):
+    """Whether a 64-bit kernel also runs 32-bit programs: it has a setting for them then, whose name is its machine's."""
+    return machine in COMPAT_SETTINGS and any(os.path.exists(f"{path}/{name}") for name in COMPAT_SETTINGS[machine])
 
 
 def narrow(main, asked, filters, target, pairs):

@@ -22,7 +22,8 @@ FOREVER = float("inf")
 # The numbers of these calls for 32-bit callers on a 64-bit kernel, which are other calls' for 64-bit ones: a look alone tells what it was.
 COMPAT = "compat"
 COMPAT_NUMBERS = (23, 70, 164, 203, 208, 213, 46, 71, 170, 204, 210, 214)
-COMPAT_MACHINES = ("x86_64", "aarch64")
+# Settings under /proc/sys/abi that a kernel has which runs 32-bit programs.
+COMPAT_SETTINGS = {"x86_64": ("vsyscall32",), "aarch64": ("cp15_barrier", "setend", "swp")}
 COMPAT_FILTER = "ret == 0 && (" + " || ".join(f"id == {number}" for number in COMPAT_NUMBERS) + ")"
 
 

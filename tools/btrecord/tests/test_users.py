@@ -20,7 +20,7 @@ from instance import INTERRUPTS, Instance
 from looks import Looks, kernel_name
 from output import Output
 from reading import entries_of, read_recording
-from record import Asked, record, watched_in
+from record import Asked, record, runs_32_bit_programs, watched_in
 from ring import Records, page_shape
 from tasks import Change, Renaming, Tasks, call_changes, task_changes
 from users import COMPAT, UNKNOWN, Call, Seen, after, with_looks
@@ -224,9 +224,16 @@ class Recordings(unittest.TestCase):
         self.assertEqual(order[1], [("demo", "tick")])
         self.assertEqual(order[0], watched_in(self.top))
         self.assertLessEqual({("task", "task_rename"), ("syscalls", "sys_exit_setuid"), ("syscalls", "sys_enter_setresgid")}, set(order[0]))
-        if os.uname().machine in ("x86_64", "aarch64"):
+        self.assertEqual(("raw_syscalls", "sys_exit") in order[0], runs_32_bit_programs())
+        if runs_32_bit_programs():
             own = next(files for name, files in kernel.removed.items() if name.endswith("-tasks"))
             self.assertTrue(own["events/raw_syscalls/sys_exit/filter"].startswith(b"ret == 0 && (id == 23 || "))
+
+    def test_kernels_that_run_32_bit_programs(self):
+        os.makedirs(self.top)
+        self.assertFalse(runs_32_bit_programs("x86_64", self.top))
+        pathlib.Path(self.top, "vsyscall32").write_text("1\n")
+        self.assertEqual([runs_32_bit_programs(machine, self.top) for machine in ("x86_64", "aarch64", "riscv64")], [True, False, False])
 
     def test_what_interrupts_the_recorder_is_not_its_own(self):
         own = os.getpid()
