@@ -1,9 +1,10 @@
 """The real bpftrace beside the recorder and the program, live, over the same events, in a guest of Debian's packages.
 
-  python3 tools/beside FOLDER [--cpus N] [--memory MEGABYTES] [--seconds N] [--scripts NAME ..] [--again]
+  python3 tools/beside FOLDER [--cpus N] [--memory MEGABYTES] [--seconds N] [--scripts NAME ..] [--here] [--again]
 
 FOLDER gets the guest, some 3 GB, which later runs take as it is, and what came of the run. Nothing is installed on this machine, and the guest
-has no network. It takes some minutes to make it, and some to run it under emulation. The status is 1 where something differs that no line of
+has no network. It takes some minutes to make it, and some to run it under emulation. With --here the same bpftrace runs, as root, on this
+machine's own kernel. The status is 1 where something differs that no line of
 docs/DIFFERENCES.md explains, and 2 where it could not be tried.
 """
 import argparse
@@ -36,6 +37,7 @@ def words():
     parser.add_argument("--memory", type=int, default=3072, help="how many megabytes the guest has")
     parser.add_argument("--seconds", type=int, default=3600, help="after how many the guest is given up")
     parser.add_argument("--scripts", nargs="+", default=[], help="only scripts whose names begin so")
+    parser.add_argument("--here", action="store_true", help="no guest: as root on this machine's own kernel")
     parser.add_argument("--again", action="store_true", help="compare what the last run left, without a guest")
     return parser.parse_args()
 
@@ -48,8 +50,8 @@ def chosen(beginnings):
     return found
 
 
-def inputs(folder, scripts):
-    """A folder with what the guest needs to run some scripts."""
+def inputs(folder, scripts, disk):
+    """A folder with what the guest needs to run some scripts, and to write what comes of them to a disk where there is one."""
     shutil.rmtree(folder, ignore_errors=True)
     (folder / "scripts").mkdir(parents=True)
     for path in scripts:
@@ -57,7 +59,7 @@ def inputs(folder, scripts):
     shutil.copytree(TOP / "tools/btrecord", folder / "btrecord", ignore=shutil.ignore_patterns("tests", "__pycache__"))
     shutil.copy(HERE / "inside.py", folder)
     subprocess.run(["cc", "-O1", "-static", "-pthread", "-o", str(folder / "burst"), str(HERE / "burst.c")], check=True)
-    asked = {"group": SCRIPTS_AT_ONCE, "rounds": ROUNDS, "kilobytes": KILOBYTES, "more": [], "commands": []}
+    asked = {"group": SCRIPTS_AT_ONCE, "rounds": ROUNDS, "kilobytes": KILOBYTES, "disk": disk}
     (folder / "asked.json").write_text(json.dumps(asked))
     return folder
 
@@ -79,11 +81,25 @@ def compared(program, output, scripts):
             left.append(f"{script.stem}: it did not run")
             rows.append((script.stem, "did not run"))
             continue
-        found = differences(live.read_text(encoding="latin-1"), ran(program, script, live.parent / "r.btr"))
+        text = live.read_text(encoding="latin-1")
+        if "READY" not in text:
+            left.append(f"{script.stem}: bpftrace does not run it on this kernel")
+            rows.append((script.stem, "bpftrace does not run it on this kernel"))
+            continue
+        found = differences(text, ran(program, script, live.parent / "r.btr"))
         new = unexplained(script.stem, found)
         left += [f"{script.stem}: {line}" for line in new]
         rows.append((script.stem, "equal" if not found else "; ".join(told(script.stem, found)) if not new else f"differs in {len(new)}"))
     return rows, left
+
+
+def run(asked, folder, scripts):
+    """Runs the scripts in a guest, or here."""
+    guest = made(folder)
+    if asked.here:
+        guest.run_here(inputs(folder / "in", scripts, None), folder / "out", asked.seconds)
+    else:
+        guest.run(inputs(folder / "in", scripts, "/dev/vdc"), folder / "out", asked.cpus, asked.memory, asked.seconds)
 
 
 def main():
@@ -96,10 +112,11 @@ def main():
     try:
         scripts = chosen(asked.scripts)
         asked.folder.mkdir(parents=True, exist_ok=True)
+        folder = asked.folder.resolve()
         if not asked.again:
-            made(asked.folder).run(inputs(asked.folder / "in", scripts), asked.folder / "out", asked.cpus, asked.memory, asked.seconds)
-        rows, left = compared(program, asked.folder / "out", scripts)
-    except (NoGuest, NoPackages, OSError, subprocess.CalledProcessError) as fault:
+            run(asked, folder, scripts)
+        rows, left = compared(program, folder / "out", scripts)
+    except (NoGuest, NoPackages, OSError, subprocess.SubprocessError) as fault:
         print(f"beside: {fault}", file=sys.stderr)
         return 2
     for script, word in rows:

@@ -7,7 +7,9 @@ import os
 import pathlib
 import shutil
 import subprocess
+import sys
 import tarfile
+import tempfile
 
 from packages import EMULATOR, GUEST, fetched, unpacked
 
@@ -38,6 +40,11 @@ cd /tmp/in && python3 inside.py /tmp/out /dev/vdd
 cd /tmp/out && tar cf /dev/vdc . ; sync
 echo "guest done: $(cat /proc/uptime) s"
 echo o > /proc/sysrq-trigger; sleep 30
+"""
+
+
+HERE = """#!/bin/sh
+exec {loader} --library-path {library} {bpftrace} "$@"
 """
 
 
@@ -142,6 +149,20 @@ class Guest:
             shutil.rmtree(work)
         if b"guest done" not in log.read_bytes():
             raise NoGuest(f"the guest did not end within {seconds} s, or not as it should; its console: {log}")
+
+    def run_here(self, inputs, output, seconds):
+        """Runs the same on this machine's own kernel, as root: by the guest's bpftrace, which stays where it was unpacked."""
+        programs = self.folder / "here"
+        programs.mkdir(exist_ok=True)
+        library = self.root / "usr/lib"
+        write_program(programs / "bpftrace", HERE.format(loader=library / "x86_64-linux-gnu/ld-linux-x86-64.so.2", bpftrace=self.root / "usr/bin/bpftrace",
+                                                         library=f"{library}/x86_64-linux-gnu:{library}"))
+        shutil.rmtree(output, ignore_errors=True)
+        output.mkdir(parents=True)
+        with tempfile.NamedTemporaryFile(dir=self.folder) as device:
+            device.truncate(WORK_MEGABYTES * MEGABYTE)
+            subprocess.run([sys.executable, "inside.py", str(output), device.name], cwd=inputs, stdin=subprocess.DEVNULL, check=True, timeout=seconds,
+                           env={**os.environ, "PATH": f"{programs}:{os.environ.get('PATH', '')}"})
 
     def environment(self):
         """The emulator's environment, in which it finds its libraries."""

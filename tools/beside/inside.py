@@ -53,7 +53,7 @@ def group(folder, scripts, asked, device):
             live[script] = subprocess.Popen(["bpftrace", str(script)], stdout=out, stderr=err, env={**os.environ, **ROOM})
     waited(lambda: all(process.poll() is not None or "READY" in (folder / f"{script.stem}.live").read_text(errors="replace")
                        for script, process in live.items()), READY_SECONDS)
-    words = [word for script in scripts for word in ("--for", str(script))] + [word for name in asked["more"] for word in (name,)]
+    words = [word for script in scripts for word in ("--for", str(script))]
     with open(folder / "record.told", "w") as err:
         recorder = subprocess.Popen([sys.executable, "btrecord", "record", *words, "--buffer-kb", str(asked["kilobytes"]), "-o", str(folder / "r.btr")], stderr=err)
     waited(lambda: recorder.poll() is not None or "recording " in (folder / "record.told").read_text(), READY_SECONDS)
@@ -65,9 +65,11 @@ def group(folder, scripts, asked, device):
     say(folder.name, "burst", burst.returncode, "recorder", status, (folder / "record.told").read_text().strip().replace("\n", "; "))
 
 
-def handed_out(folder):
-    """Writes what there is so far to the disk that the host reads."""
-    with open("/dev/vdc", "r+b") as disk:
+def handed_out(folder, disk):
+    """Writes what there is so far to the disk that the host reads, where there is one."""
+    if not disk:
+        return
+    with open(disk, "r+b") as disk:
         with tarfile.open(fileobj=disk, mode="w") as file:
             file.add(folder, arcname=".")
     os.sync()
@@ -83,9 +85,7 @@ def main(folder, device):
     size = asked["group"]
     for number, first in enumerate(range(0, len(scripts), size)):
         group(pathlib.Path(folder, f"group-{number + 1}"), scripts[first:first + size], asked, device)
-        handed_out(folder)
-    for command in asked["commands"]:
-        say(command, subprocess.run(["sh", "-c", command], env={**os.environ, "OUT": folder, "DEVICE": device}).returncode)
+        handed_out(folder, asked["disk"])
 
 
 if __name__ == "__main__":

@@ -5,13 +5,26 @@ from dataclasses import dataclass
 
 @dataclass(frozen=True)
 class Known:
-    """A difference that is known: a script, a pattern of the line that tells it, and words of docs/DIFFERENCES.md that say why."""
+    """A difference that is known: a script, a pattern of the line that tells it, and words of docs/DIFFERENCES.md that say why.
+
+    With `is_less` it is one only where bpftrace has fewer than the program.
+    """
 
     script: str
     pattern: str
     words: str
+    is_less: bool = False
+
+    def holds(self, script, difference):
+        """Whether it is a difference of a script."""
+        if self.script not in (script, "*") or not re.match(self.pattern, difference, re.DOTALL):
+            return False
+        counts = COUNTS.search(difference)
+        return not self.is_less or counts is not None and int(counts[1]) < int(counts[2])
 
 
+COUNTS = re.compile(r": live (\d+), here (\d+)$")
+INTERRUPTS = "events in interrupts"
 UNSIGNED = "of fields without a sign"
 CLEARED = "a `count()` that was cleared, or to which nothing was added yet"
 TICKS = "An `interval` ticks by the recording's time"
@@ -24,13 +37,16 @@ KNOWN = [
     Known("47_ticks_hz", r"@ticks: live 0, here nothing$", CLEARED),
     Known("14_switches", r"@out\[burst, 120, (?:16|32|64)\]: ", "`prev_state` of a switch"),
     Known("21_interval_print", r"@: live (?:0 \| )*[\d |]+, here [\d |]+$", TICKS),
+    Known("17_block_requests", r"@\w\[[^]]*\]: live \d+ \| \d+", "bytes behind the end of a string"),
+    Known("34_softirqs", r"@r?\[\d+\]: ", INTERRUPTS, True),
+    Known("43_wakeups_in_interrupts", r"@(?:n|w|pid\[\d+\]): ", INTERRUPTS, True),
     Known("50_unsigned_fields", r"@most: live nothing, here -\d+$", "the greatest of negative numbers"),
 ]
 
 
 def words_for(script, difference):
     """The words of docs/DIFFERENCES.md that explain a difference of a script, or none."""
-    return next((known.words for known in KNOWN if known.script in (script, "*") and re.match(known.pattern, difference, re.DOTALL)), None)
+    return next((known.words for known in KNOWN if known.holds(script, difference)), None)
 
 
 def unexplained(script, differences):

@@ -28,6 +28,11 @@ import sys  # noqa: E402
 if sys.version_info < (3, 8):
     sys.exit("btrecord: Python %s is too old for this command, which needs 3.8" % sys.version.split()[0])
 
+# Ctrl-C ends it without a word while its modules are read, as it does later.
+FINDS_CTRL_C = signal.getsignal(signal.SIGINT) is signal.default_int_handler
+if FINDS_CTRL_C:
+    signal.signal(signal.SIGINT, signal.SIG_DFL)
+
 # Who records as root, in a folder of somebody else, leaves nothing there. What Python kept of this file it kept before it read this.
 if not sys.dont_write_bytecode:
     sys.dont_write_bytecode = True

@@ -62,8 +62,10 @@ class Explained(unittest.TestCase):
     def test_only_what_is_known_is_explained(self):
         self.assertEqual(words_for("11_clear_zero", "@a: live 0, here nothing"), "a `count()` that was cleared, or to which nothing was added yet")
         for script, difference in [("11_clear_zero", "@a: live 5, here nothing"), ("12_printf_forms", "@a: live 0, here nothing"),
-                                   ("09_map_changes", "@e[7]: live 3, here 4"), ("29_users", "@[0, 0]: live nothing, here 30")]:
+                                   ("09_map_changes", "@e[7]: live 3, here 4"), ("29_users", "@[0, 0]: live nothing, here 30"),
+                                   ("43_wakeups_in_interrupts", "@n: live 175, here 174"), ("43_wakeups_in_interrupts", "@n: live 1, here nothing")]:
             self.assertEqual(unexplained(script, [difference]), [difference])
+        self.assertEqual(words_for("43_wakeups_in_interrupts", "@n: live 173, here 174"), "events in interrupts")
         self.assertEqual(told("01_count_keys", ["@: its rows stand in another order"] * 2), ["order of rows"])
 
     def test_the_page_says_why(self):
