@@ -7,17 +7,13 @@ import socket
 import subprocess
 import threading
 
-from btreplay import proved, unproved
+from btreplay.choice import NoProgram, chosen
 from btreplay.compiled import NotBuilt
-from btreplay.places import is_checkout
+from btreplay.words import Answering
 
 # The runs of this process that have not ended.
 running = set()
 lock = threading.Lock()
-
-
-class NoProgram(Exception):
-    """Why there is no program to run."""
 
 
 def held(paths):
@@ -32,14 +28,6 @@ def held(paths):
         except (OSError, ValueError):
             continue
     return socket.gethostname(), found
-
-
-def program_here():
-    """The path of the proved program of this machine, which a worker does not build."""
-    if is_checkout() and not proved.is_current():
-        raise NoProgram("the program is not proved and built there: ./btreplay big 1 1 does that, and btfleet --unproved "
-                        "does without")
-    return proved.program()
 
 
 def answer_by(program, script, path):
@@ -69,18 +57,14 @@ def end_all():
             child.kill()
 
 
-def answer(script, path, is_unproved, program=None):
-    """What a recording answers to a script: the status, what was printed and what was told. The status is none where
-    nothing could be run."""
+def answer(script, path, answering, program=None):
+    """What a recording answers to a script by the program of this machine that is to answer, by its name in Answering, or
+    by another one: the status, what was printed and what was told. The status is none where nothing could be run."""
     try:
         if program:
             return answer_by(program, script, path)
-        if not is_unproved:
-            return answer_by(program_here(), script, path)
-        if not is_checkout():
-            return None, b"", b"the program that is installed there is proved: leave --unproved out"
-        with unproved.build() as built:
-            return answer_by(built, script, path)
+        with chosen(Answering[answering]) as found:
+            return answer_by(found.path, script, path)
     except NoProgram as fault:
         return None, b"", str(fault).encode()
     except NotBuilt as fault:

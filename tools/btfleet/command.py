@@ -14,7 +14,7 @@ from btfleet.printing import printed
 from btfleet.progress import Progress
 from btfleet.result import Result
 from btfleet.words import parsed
-from btreplay import proved, unproved
+from btreplay.choice import NoProgram, chosen
 from btreplay.compiled import NotBuilt
 from btreplay.refusal import pointed, why_unread
 from btreplay.running import end_in_order, hold_streams
@@ -64,15 +64,13 @@ def plan_or_refused(script, shown):
 
 @contextlib.contextmanager
 def how_to_ask(asked):
-    """What is told to those who ask recordings: whether to take the build that is not proved, and on this machine
-    the program, which is built first."""
+    """What is told to those who ask recordings: by its name which program is to answer, and on this machine the
+    program, which is built first where that is wanted."""
     if asked.scheduler:
-        yield asked.unproved, None
-    elif asked.unproved:
-        with unproved.build() as program:
-            yield True, str(program)
-    else:
-        yield False, str(proved.program())
+        yield asked.answering.name, None
+        return
+    with chosen(asked.answering, tell) as program:
+        yield asked.answering.name, program.path
 
 
 def ask(asked, plan, named, shown):
@@ -135,6 +133,9 @@ def main(arguments):
     except Refused as fault:
         tell(str(fault).split("\n"))
         return fault.status
+    except NoProgram as fault:
+        tell([str(fault)])
+        return WORDS
     except NotBuilt as fault:
         tell_alone([str(fault)])
         tell(["the program could not be built"])
