@@ -2,7 +2,7 @@
 import difflib
 
 from btreplay.places import is_checkout
-from btreplay.words import COMMANDS, FILES, OPTIONS, THREE
+from btreplay.words import COMMANDS, FILES, OPTIONS, THREE, as_program_gets, is_text
 
 HEAD = "btreplay runs scripts of the bpftrace language over recordings of Linux tracepoint events."
 EXAMPLES = """examples:
@@ -93,6 +93,8 @@ def what_is_wrong(words):
         return f"{twice[0]} stands there more than once"
     if "" in words[1:]:
         return "an empty word is no name of a file"
+    if not all(is_text(word) for word in as_program_gets(words)):
+        return "a word that is no UTF-8 text is no name of a file"
     return count_of(name, words_without_script(words))
 
 

@@ -113,11 +113,20 @@ def is_number(word, most):
     return word.isascii() and word.isdigit() and len(word) <= MOST_DIGITS and int(word) <= most
 
 
+def is_text(word):
+    """Whether a word is UTF-8, as the program wants all of its own."""
+    try:
+        word.encode()
+    except UnicodeEncodeError:
+        return False
+    return True
+
+
 def is_admitted(words):
     """Whether words are a command of this command: those of the program, by the program's own rule, and prove."""
     words = as_program_gets(words)
     command = COMMANDS.get(words[0]) if words else None
-    if not command or words[0] == "help":
+    if not command or words[0] == "help" or not all(is_text(word) for word in words):
         return False
     later = words[1:]
     options = [word for word in later if word in command.options]
