@@ -21,13 +21,13 @@ TERMS = LICENSE-MIT LICENSE-APACHE NOTICE CHANGELOG.md
 DEB ?= btreplay_$(shell cat VERSION)_amd64.deb
 
 all:
-	./btreplay big 1 3 >/dev/null
+	./btreplay prove
 
 check:
 	python3 tools/check
 
 install:
-	@test -x '$(PROGRAM)' || { echo "make install: there is no $(PROGRAM): make without words proves and builds it" >&2; exit 1; }
+	@test -x '$(PROGRAM)' || { echo "make install: there is no $(PROGRAM): make without words, as ./btreplay prove, proves and builds it" >&2; exit 1; }
 	install -d '$(BIN)' '$(LIB)' '$(MAN)' '$(COMPLETION)' '$(DOC)'
 	! test -e '$(LIB)/version' || rm -rf '$(LIB)/tools'
 	./btreplay --version >'$(LIB)/version'

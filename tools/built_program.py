@@ -18,7 +18,7 @@ def real_program():
     """The built program, or none where it does not know run --json."""
     named = os.environ.get("BTREPLAY_PROGRAM")
     kept = unproved.cache() / f"unproved-{unproved.checksum()}"
-    for path in [named] if named else [proved.PROGRAM, kept]:
+    for path in [named] if named else [*([proved.PROGRAM] if proved.is_current() else []), kept]:
         if os.access(path, os.X_OK):
             with tempfile.NamedTemporaryFile(suffix=".bt") as script:
                 script.write(b"BEGIN { @ = count(); }")

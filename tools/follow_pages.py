@@ -4,7 +4,7 @@
   python3 tools/follow_pages.py [--program PROGRAM | --unproved] [PAGE ..]
 
 PAGES are README.md, examples/README.md and those of docs/ for users, where none is named. PROGRAM stands for ./btreplay. With --unproved
-each command is done by the build that is not proved, and what it tells of that is left out where the page does not ask for it.
+each command is done by the build that is not proved. What a command tells of that build is left out where the page does not ask for it.
 What is tried, in a folder of its own:
 - in a block marked console each line after "$ ", whose output is what stands up to the next such line;
 - in a block marked text, that ends in a line with a fault, the script or recording before it;
@@ -24,9 +24,9 @@ REPORT = "python3 tools/btreport "
 FAULT = re.compile(r"(s\.bt:\d+:\d+|r\.btr): [A-Z]\d+ ")
 SCRIPT = re.compile(r"`((?:BEGIN|END|tracepoint:|t:|interval:|i:)[^`]*\{[^`]*\})`")
 RECORDING = "examples/small.btr"
-NOT_PROVED = re.compile(r"^btre(?:play|port): this build is not proved\n", re.M)
+NOT_PROVED = re.compile(r"^btre(?:play|port): this build is not proved[^\n]*\n", re.M)
 UNPROVED = """#!/bin/sh
-[ "$1" = --unproved ] || set -- --unproved "$@"
+case " $* " in *" --unproved "*) ;; *) set -- --unproved "$@" ;; esac
 exec '{program}' "$@"
 """
 
@@ -65,15 +65,14 @@ class Follower:
         self.names.update(text=b"name: e\nID: 7\nformat:\n", e=(0, 0, 0, 0, 0, b"", b"\7\0"))
 
     def output_of(self, command):
-        """What a command writes, to both streams."""
-        if self.is_unproved and "--unproved" not in command:
-            command, is_added = command.replace(REPORT, f"{REPORT}--unproved "), True
-        else:
-            is_added = False
+        """What a command writes, to both streams. The line that says which program answered is left out, where the command does not ask for one."""
+        is_asked = "--unproved" in command
+        if self.is_unproved and not is_asked:
+            command = command.replace(REPORT, f"{REPORT}--unproved ")
         done = subprocess.run(["bash", "-c", command], cwd=self.folder, stdin=subprocess.DEVNULL, stdout=subprocess.PIPE,
                               stderr=subprocess.STDOUT)
         came = done.stdout.decode(errors="replace")
-        return NOT_PROVED.sub("", came) if is_added else came
+        return came if is_asked else NOT_PROVED.sub("", came)
 
     def compare(self, what, wanted, came):
         """Counts a try, and tells where it differs."""

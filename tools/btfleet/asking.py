@@ -11,42 +11,34 @@ from btfleet.child import Child, Ended, Limits
 from btfleet.faults import NONE_IN
 from btfleet.recording import NoRecording, Recording, look
 from btreplay import proved, unproved
+from btreplay.choice import NoProgram, chosen
 from btreplay.compiled import NotBuilt
 from btreplay.places import TOOLS, is_checkout
+from btreplay.words import Answering
 
 REPLACED = "it was replaced or changed since it was looked at"
 
 
-class NoProgram(Exception):
-    """Why there is no program to run."""
-
-
 @dataclass(frozen=True)
 class Question:
-    """What is asked of a recording: the script, the path, the recording as it was looked at, whether the build is taken that is not proved, and the
-    program, where that is known."""
+    """What is asked of a recording: the script, the path, the recording as it was looked at, which program is to answer, and the program, where
+    that is known."""
 
     script: bytes
     path: str
     seen: Recording
-    is_unproved: bool = False
+    answering: Answering = Answering.ANY
     program: str = ""
 
 
 @contextlib.contextmanager
 def program_for(question):
-    """The path of the program that is run; NoProgram where there is none here, for a worker does not prove one."""
+    """The path of the program that is run, by the choice of btreplay; NoProgram where the one that is asked for is not here."""
     if question.program:
         yield question.program
-    elif question.is_unproved:
-        if not is_checkout():
-            raise NoProgram("the program that is installed there is proved: leave --unproved out")
-        with unproved.build() as built:
-            yield str(built)
-    else:
-        if is_checkout() and not proved.is_current():
-            raise NoProgram("the program is not proved and built there: ./btreplay big 1 1 does that, and btfleet --unproved does without")
-        yield str(proved.program())
+        return
+    with chosen(question.answering, lambda lines: None) as found:
+        yield found.path
 
 
 def what_it_is(path):
@@ -57,9 +49,9 @@ def what_it_is(path):
     return "".join(f"{line}\n" for line in unread.in_place_of_recording(path, unread.begin_of(path))).encode(errors="surrogateescape")
 
 
-def version(is_unproved):
-    """The version of the program here, in words: with what it was proved, or which sources a build is made from that is not."""
-    if is_unproved and is_checkout():
+def version(answering):
+    """The version of the program here that answers, in words: with what it was proved, or which sources a build is made from that is not."""
+    if is_checkout() and (answering is Answering.UNPROVED or answering is Answering.ANY and not proved.is_current()):
         return f"the build that is not proved, of sources {unproved.checksum()[:12]}"
     return proved.version()
 

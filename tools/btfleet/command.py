@@ -23,7 +23,7 @@ from btfleet.progress import Progress, named
 from btfleet.result import Result
 from btfleet.survey import survey
 from btfleet.words import parsed
-from btreplay import proved, unproved
+from btreplay.choice import NoProgram, chosen
 from btreplay.compiled import NotBuilt
 from btreplay.refusal import pointed, why_unread
 from btreplay.running import end_in_order, hold_streams
@@ -82,11 +82,8 @@ def plan_or_refused(script, shown, is_compared=False):
 @contextlib.contextmanager
 def program_here(asked):
     """The path of the program of this machine, which is built first where that is wanted."""
-    if asked.unproved:
-        with unproved.build() as program:
-            yield str(program)
-    else:
-        yield str(proved.program())
+    with chosen(asked.answering, tell) as program:
+        yield program.path
 
 
 def keep_apart(asked, result):
@@ -136,9 +133,9 @@ async def ask_here(asked, question, named_here, result, progress):
         await gather(Here(question, program, progress).answers(result.asked), result, progress)
 
 
-def told_programs(seen, is_unproved):
+def told_programs(seen, answering):
     """What is told of hosts whose program is another one than here."""
-    here, others = version(is_unproved), {}
+    here, others = version(answering), {}
     for name, found in seen.items():
         if found.program and found.program != here:
             others.setdefault(found.program, []).append(name)
@@ -155,20 +152,20 @@ async def ask_hosts(asked, question, operands_named, result, progress):
               for name, when in (await link.taken_names()).items() if named_hosts & {name, EACH}])
         hosts = hosts_of(known)
         wanted = wanted_of(operands_named, hosts)
-        seen = await survey(link, wanted, asked.unproved, progress)
+        seen = await survey(link, wanted, asked.answering, progress)
         result.asked, notes = placed(operands_named, hosts, seen)
         expected(result.asked, hosts_expected(asked.hosts) if asked.hosts else [], hosts, operands_named)
         keep_apart(asked, result)
         progress.count = len(result.asked)
         tell(notes + alike_told(result.asked))
-        tell(told_programs({host.name: seen[host.place()] for host, _ in wanted}, asked.unproved))
+        tell(told_programs({host.name: seen[host.place()] for host, _ in wanted}, asked.answering))
         await gather(Fleet(link, question, progress).answers(result.asked, known), result, progress)
 
 
 def ask(asked, plan, named_all, shown):
     """Asks all recordings, and gives what came of them."""
     result, progress = Result(plan, asked.by_host or asked.diff, shown, asked.least), Progress()
-    question = Question(plan.script.encode("latin-1"), asked.unproved, asked.timeout)
+    question = Question(plan.script.encode("latin-1"), asked.answering, asked.timeout)
     how = ask_hosts if asked.scheduler else ask_here
     try:
         asyncio.run(how(asked, question, named_all, result, progress))
@@ -235,6 +232,9 @@ def main(arguments):
     except Refused as fault:
         tell(str(fault).split("\n"))
         return fault.status
+    except NoProgram as fault:
+        tell([str(fault)])
+        return WORDS
     except NotBuilt as fault:
         tell_alone([str(fault)])
         tell(["the program could not be built"])

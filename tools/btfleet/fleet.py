@@ -15,6 +15,7 @@ from btfleet.engine import CONNECT_SECONDS, Gone, Lost, Silent, Unknowing
 from btfleet.hosts import hosts_of
 from btfleet.serving import asker
 from btfleet.wire import Unreadable
+from btreplay.words import Answering
 
 LOOK_SECONDS = 1
 GRACE_SECONDS = 20
@@ -46,10 +47,10 @@ class Waits:
 
 @dataclass
 class Question:
-    """What is asked of all recordings: the script, whether by builds that are not proved, and how many seconds a run may take, if that is said."""
+    """What is asked of all recordings: the script, which programs are to answer, and how many seconds a run may take, if that is said."""
 
     script: bytes
-    is_unproved: bool = False
+    answering: Answering = Answering.ANY
     seconds: float = None
 
 
@@ -159,7 +160,7 @@ class Fleet:
     async def ask(self, worker, host, asked):
         """What a recording answers, asked of a worker. It raises what the link raises, Silent where the worker is silent for long."""
         name = uuid.uuid4().hex
-        fields = {"does": "ask", "run": name, "path": asked.path, "seen": asked.seen.fields(), "by": asker(), "unproved": self.question.is_unproved,
+        fields = {"does": "ask", "run": name, "path": asked.path, "seen": asked.seen.fields(), "by": asker(), "answering": self.question.answering.name,
                   "seconds": self.question.seconds}
         content, heard, began = self.question.script, time.monotonic(), time.monotonic()
         self.runs[name] = worker.address

@@ -16,6 +16,7 @@ from btfleet.child import Ended, Limits, killed_for_memory
 from btfleet.machine import this_machine
 from btfleet.recording import NoRecording, look, recording_of
 from btfleet.wire import FORM, Unreadable, coded, read
+from btreplay.words import Answering
 
 # The name of the handler, and of what the scheduler knows of a worker beside Dask's own.
 NAME = "btfleet"
@@ -89,6 +90,14 @@ def checked(fields, name, kind):
     return fields[name]
 
 
+def answering_of(fields):
+    """Which program is to answer, of a message; Unreadable where it names none of them."""
+    name = fields.get("answering", Answering.ANY.name)
+    if name not in Answering.__members__:
+        raise Unreadable("answering is none of the programs")
+    return Answering[name]
+
+
 class Host:
     """What this worker answers, so many runs at a time."""
 
@@ -149,12 +158,12 @@ class Host:
             found = await self.timed(lambda: [told_of(path, self.allowed.folders) for path in paths], LOOK_SECONDS)
         except Hung:
             found = await asyncio.gather(*map(self.look_at, paths))
-        return coded({"found": dict(zip(paths, found)), "program": await self.version(fields.get("unproved") is True)})
+        return coded({"found": dict(zip(paths, found)), "program": await self.version(answering_of(fields))})
 
-    async def version(self, is_unproved):
+    async def version(self, answering):
         """The version of the program there, in words."""
         try:
-            return await self.timed(lambda: version(is_unproved), LOOK_SECONDS)
+            return await self.timed(lambda: version(answering), LOOK_SECONDS)
         except (Hung, OSError) as fault:
             return f"unknown: {fault}"
 
@@ -168,7 +177,7 @@ class Host:
             limits = self.allowed.limits
             if type(seconds) in (int, float) and 0 < seconds < limits.seconds:
                 limits = Limits(limits.memory, seconds, limits.printed)
-            question = Question(script, path, seen, fields.get("unproved") is True)
+            question = Question(script, path, seen, answering_of(fields))
             asked = self.runs[name] = Asked(by, Run(question, limits, self.allowed.folders))
             asked.ended = asyncio.ensure_future(self.run(asked))
         return await self.wait(fields, b"")
@@ -177,7 +186,7 @@ class Host:
         """Runs what was asked, where there is room for it, and notes it in the log."""
         async with self.room:
             began, question = time.monotonic(), asked.run.question
-            seconds = asked.run.limits.seconds + BUILD_SECONDS * question.is_unproved + 4 * LOOK_SECONDS
+            seconds = asked.run.limits.seconds + BUILD_SECONDS * (question.answering is not Answering.PROVED) + 4 * LOOK_SECONDS
             try:
                 ended = await self.timed(asked.run.answer, seconds)
             except Hung as fault:

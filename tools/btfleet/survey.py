@@ -74,15 +74,15 @@ async def look_at(link, host, asked):
             task.cancel()
 
 
-async def survey(link, wanted, is_unproved, progress):
-    """What hosts have, by their places. `wanted` has pairs of a host and the paths that are asked of it. The version of the program is that of the build
-    that is not proved, where it is asked so."""
+async def survey(link, wanted, answering, progress):
+    """What hosts have, by their places. `wanted` has pairs of a host and the paths that are asked of it. The version of the program is that of the one
+    that answers there."""
     waited = {host.place(): host.name for host, _ in wanted}
     found = {}
 
     async def one(host, paths):
         """What one has."""
-        found[host.place()] = await look_at(link, host, {"paths": sorted(paths), "unproved": is_unproved})
+        found[host.place()] = await look_at(link, host, {"paths": sorted(paths), "answering": answering.name})
         del waited[host.place()]
 
     tasks = asyncio.gather(*(one(host, paths) for host, paths in wanted))

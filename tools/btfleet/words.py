@@ -3,6 +3,7 @@ import argparse
 
 from btfleet.faults import WORDS
 from btreplay import proved
+from btreplay.choice import add_choice
 
 DESCRIPTION = ("Asks one script of many recordings, each where a worker of Dask's distributed scheduler holds it, and "
                "prints the merged rows as btreplay prints those of one. It is not proved.")
@@ -30,8 +31,7 @@ def words():
     """The words of all commands."""
     parser = Words(prog="btfleet", description=DESCRIPTION)
     parser.add_argument("--version", "-V", action=Version, nargs=0, help="print the version, and end")
-    parser.add_argument("--unproved", action="store_true",
-                        help="ask by builds that are not proved, as btreplay --unproved")
+    add_choice(parser)
     commands = parser.add_subparsers(dest="command", required=True, metavar="COMMAND", parser_class=Words)
     run = commands.add_parser("run", help="ask a script of recordings, and print what they answer together",
                               usage="btfleet run SCRIPT RECORDING .. [--scheduler ADDRESS] [--json] [--by-host | --by LABEL --labels FILE] [--diff] "

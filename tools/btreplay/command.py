@@ -1,43 +1,22 @@
 """The words of the command `btreplay`, and what it does beside running the program."""
 import contextlib
+import errno
 import os
 import signal
 import subprocess
 import sys
 from dataclasses import dataclass
 
-from btreplay import proved, unproved
+from btreplay import proved
+from btreplay.choice import NoProgram, chosen
 from btreplay.compiled import NotBuilt
 from btreplay.places import is_checkout
-from btreplay.running import Ended, end_as, end_in_order, hold_streams, is_read_no_more, pass_on, run_program, tell
+from btreplay.running import STACK, Ended, end_as, end_in_order, hold_streams, is_read_no_more, pass_on, run_program, stack_here, tell
+from btreplay.words import Answering, BadWords, given, is_admitted, operands
 
-HELP = """usage: btreplay run [--serial] [--stats] [--json] SCRIPT RECORDING
-                                               runs the script over the recording, and writes what it prints
-       btreplay check SCRIPT RECORDING         looks both over for all that refuses them
-       btreplay explain SCRIPT RECORDING       the same, and what a fault means and how it is mended
-       btreplay code SCRIPT RECORDING          lists the BPF code of each body
-       btreplay gen X N                        writes a made recording of N events
-       btreplay big X N                        runs a built-in script over it
-       btreplay account [--serial] SCRIPT RECORDING
-                                               runs the script as run does, and writes an account: all steps, and the text
-       btreplay verify SCRIPT RECORDING ACCOUNT
-                                               checks an account against the script and the recording
-       btreplay vet SCRIPT RECORDING           checks the BPF code of each body
-       btreplay --help | --version
-
-SCRIPT may be - for standard input, or -e 'PROGRAM' for a script as it stands.
---serial takes the events of all CPUs in one order, by their times; --stats tells how many instructions were run;
---json writes JSON lines in place of text.
-"""
-UNPROVED_HELP = """btreplay --unproved and the words of a command do it by a build that is not proved, which is there within some three minutes.
-"""
 TAKES_SCRIPT = ("run", "check", "code", "vet", "explain", "account", "verify")
 FAILED = 1
 MOST_SCRIPT = 65_536
-
-
-class BadWords(Exception):
-    """Why words are none of this command's own."""
 
 
 @dataclass
@@ -80,20 +59,15 @@ def standard_input():
     raise BadWords("standard input could not be read")
 
 
-def operands(words):
-    """The places of the words behind the command that are no options; `-` alone is standard input."""
-    return [place for place, word in enumerate(words) if place and (word == "-" or not word.startswith("-"))]
-
-
 def asked_of(words):
     """What words ask for. A script that stands in them or on standard input is put into a file without a name."""
     asked = Asked(list(words))
     if asked.command not in TAKES_SCRIPT:
         return asked
-    given = None
+    text = None
     if "-e" in asked.words[:-1]:
         place = asked.words.index("-e")
-        given = os.fsencode(asked.words[place + 1])
+        text = os.fsencode(asked.words[place + 1])
         del asked.words[place:place + 2]
         asked.words.insert((operands(asked.words) or [len(asked.words)])[0], "-e")
         at = asked.words.index("-e")
@@ -101,10 +75,10 @@ def asked_of(words):
         places = operands(asked.words)
         at = places[0] if len(places) == asked.takes else None
         if at is not None and asked.words[at] == "-":
-            given = standard_input()
-    if given is not None:
-        asked.shown, asked.text = asked.words[at], given
-        handle = handle_of(given)
+            text = standard_input()
+    if text is not None:
+        asked.shown, asked.text = asked.words[at], text
+        handle = handle_of(text)
         asked.handles = (handle,)
         asked.words[at] = f"/dev/fd/{handle}"
     found = [asked.words[place] for place in operands(asked.words)]
@@ -155,9 +129,8 @@ def after_refusal(ended, asked):
     """What is told behind a refusal; where standard error is a terminal, the script's line with a caret first."""
     if asked.is_unproved and ended.status == -signal.SIGILL:
         return ["a check of this build failed as it ran"]
-    if ended.status == FAILED and ended.told.startswith(b"usage: "):
-        from btreplay.refusal import about_words
-        return about_words(asked.words)
+    if ended.status == -signal.SIGSEGV and stack_here() < STACK:
+        return [f"a run wants a stack of {STACK // 1024} KB, and may have {stack_here() // 1024}; ulimit -s {STACK // 1024} gives it"]
     if asked.script is None or ended.status <= 0:
         return []
     from btreplay.refusal import pointed, refusal_in
@@ -170,8 +143,6 @@ def after_refusal(ended, asked):
 
 def explain(program, asked):
     """Checks a script, and writes what there is to say behind what the program tells."""
-    if asked.script is None:
-        raise BadWords("explain takes a script and a recording")
     from btreplay.checking import Checks
     from btreplay.explain import explanation
     asked.words[0] = "check"
@@ -203,27 +174,67 @@ def keep_inputs(asked):
         raise BadWords(fault)
 
 
-def answer(words):
-    """Does what words ask for, and gives the status."""
-    is_unproved = words[:1] == ["--unproved"]
-    words = words[is_unproved:]
-    if words[:1] in (["--help"], ["-h"]) or words[:1] and words[1:2] == ["--help"]:
-        print(HELP + (UNPROVED_HELP if is_checkout() else ""), end="")
+def refused(words):
+    """Tells what is wrong with words, and how the command is used; gives the status."""
+    from btreplay.usage import usage_of, what_is_wrong
+    tell([what_is_wrong(words)])
+    pass_on(usage_of(words).encode())
+    return FAILED
+
+
+def helped(words):
+    """Writes how the command is used, or the one command that is named."""
+    from btreplay.usage import commands_here, help_of, whole_help
+    if words and words[0] not in commands_here() and not words[0].startswith("-"):
+        return refused(words)
+    print(help_of(words[0]) if words and words[0] in commands_here() else whole_help(), end="")
+    return 0
+
+
+def prove(words):
+    """Proves and builds the program, here or in the background, and tells where it is."""
+    if not is_checkout():
+        raise BadWords("prove is for a checkout of the repository; the program that is installed here is proved")
+    if proved.is_current():
+        print(f"the program is proved: {proved.PROGRAM}")
         return 0
-    if words[:1] in (["--version"], ["-V"]):
+    if "--background" in words:
+        number, log = proved.in_background()
+        print(f"the program is proved in the background by process {number}, also where this terminal closes; kill {number} ends it\n"
+              f"what it tells goes to {log}")
+        return 0
+    proved.build()
+    print(f"the program is proved: {proved.PROGRAM}")
+    return 0
+
+
+def answer(words):
+    """Does what words ask for, and gives the status. Words are judged before anything is built or read."""
+    asks = given(words)
+    if asks.is_help:
+        return helped(asks.words)
+    if asks.is_version:
         print(proved.version())
         return 0
-    asked = asked_of(words)
-    asked.is_unproved = is_unproved
-    keep_inputs(asked)
-    does = explain if asked.command == "explain" else run_asked
-    if not is_unproved:
-        return does(proved.program(), asked)
-    if not is_checkout():
-        raise BadWords("--unproved is for a checkout of the repository; the program that is installed here is proved")
-    tell(["this build is not proved"])
-    with unproved.build() as program:
-        return does(program, asked)
+    if not is_admitted(asks.words) or asks.command == "prove" and asks.answering is not Answering.ANY:
+        return refused(asks.words)
+    if asks.command == "prove":
+        return prove(asks.words)
+    with chosen(asks.answering) as program:
+        asked = asked_of(asks.words)
+        asked.is_unproved = not program.is_proved
+        keep_inputs(asked)
+        does = explain if asked.command == "explain" else run_asked
+        return does(program.path, asked)
+
+
+def tell_if_memory(fault):
+    """Tells what to do where a build was ended for want of memory or of room on the disk."""
+    said = str(fault)
+    if "No space left on device" in said:
+        tell(["the disk is full: make room, or name another folder for builds by XDG_CACHE_HOME, and for files that are in use by TMPDIR"])
+    if "Killed" in said or "signal: 9" in said or "out of memory" in said.lower() or "bad_alloc" in said:
+        tell(["memory may have run out: a build that is not proved wants 2 GB of free memory, and a proof 2 GB for each crate at a time"])
 
 
 def main(words):
@@ -235,7 +246,8 @@ def main(words):
     except NotBuilt as fault:
         pass_on(str(fault).encode(errors="replace"))
         tell(["the program could not be built"])
-    except BadWords as fault:
+        tell_if_memory(fault)
+    except (BadWords, NoProgram) as fault:
         tell([str(fault)])
     except BrokenPipeError:
         with contextlib.suppress(OSError):
@@ -243,6 +255,8 @@ def main(words):
     except OSError as error:
         is_lacking = error.filename == "rt" and isinstance(error, FileNotFoundError)
         tell(["the toolchain is not there: rt is not on the path" if is_lacking else f"{error.filename or 'the program'}: {error.strerror}"])
+        if error.errno == errno.ENOSPC and "XDG_CACHE_HOME" not in (error.strerror or ""):
+            tell(["make room, or name another folder for builds by XDG_CACHE_HOME, and for files that are in use by TMPDIR"])
     except KeyboardInterrupt:
-        return end_as(-2)
+        return end_as(-signal.SIGINT)
     return FAILED

@@ -7,36 +7,36 @@ _btreplay_files() {
 }
 
 _btreplay() {
-    local word=${COMP_WORDS[COMP_CWORD]} first=1 at given=0 skip=0
+    local word=${COMP_WORDS[COMP_CWORD]} command= at given=0 skip=0 options="--proved --unproved --help"
+    local commands="run check explain code gen big account verify vet prove help"
     COMPREPLY=()
-    [[ ${COMP_WORDS[1]} == --unproved ]] && first=2
-    if ((COMP_CWORD <= first)); then
-        local own="--help --version"
-        ((first == 1)) && own="$own --unproved"
-        mapfile -t COMPREPLY < <(compgen -W "run check explain code gen big account verify vet $own" -- "$word")
-        return
-    fi
-    case ${COMP_WORDS[first]} in run | check | explain | code | account | verify | vet) ;; *) return ;; esac
-    for ((at = first + 1; at < COMP_CWORD; at++)); do
+    for ((at = 1; at < COMP_CWORD; at++)); do
         if ((skip)); then
             skip=0
         elif [[ ${COMP_WORDS[at]} == -e ]]; then
             skip=1 given=$((given + 1))
         elif [[ ${COMP_WORDS[at]} == - || ${COMP_WORDS[at]} != -* ]]; then
-            given=$((given + 1))
+            if [[ $command ]]; then given=$((given + 1)); else command=${COMP_WORDS[at]}; fi
         fi
     done
     ((skip)) && return
+    case $command in
+    "") mapfile -t COMPREPLY < <(compgen -W "$commands $options --version" -- "$word") && return ;;
+    help) ((given)) || mapfile -t COMPREPLY < <(compgen -W "$commands" -- "$word") && return ;;
+    prove) options="--background --help" ;;
+    run) options="-e --serial --stats --json $options" ;;
+    account) options="-e --serial $options" ;;
+    check | explain | code | verify | vet) options="-e $options" ;;
+    esac
     if [[ $word == -* ]]; then
-        local options="-e"
-        [[ ${COMP_WORDS[first]} == run ]] && options="-e --serial --stats --json"
-        [[ ${COMP_WORDS[first]} == account ]] && options="-e --serial"
         mapfile -t COMPREPLY < <(compgen -W "$options" -- "$word")
+    elif [[ $command == prove || $command == gen || $command == big ]]; then
+        return
     elif ((given == 0)); then
         _btreplay_files "$word" "*.bt"
     elif ((given == 1)); then
         _btreplay_files "$word" "*.btr"
-    elif ((given == 2)) && [[ ${COMP_WORDS[first]} == verify ]]; then
+    elif ((given == 2)) && [[ $command == verify ]]; then
         _btreplay_files "$word" "*.account"
     fi
 }

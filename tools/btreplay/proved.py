@@ -1,17 +1,17 @@
 """The proved program: where it is, how it is proved and built, and with what it was."""
 import contextlib
-import fcntl
 import os
 import pathlib
 import shutil
 import subprocess
 import sys
 import tempfile
+import time
 
 from btreplay.compiled import NotBuilt, asked_of_rt
-from btreplay.places import CRATE, CRATES, INSTALLED, INSTALLED_VERSION, TOP, is_checkout
+from btreplay.places import CRATE, CRATES, INSTALLED_VERSION, TOP, is_checkout
 from btreplay.running import tell
-from btreplay.unproved import cache, needed
+from btreplay.unproved import cache, locked, needed
 
 PROGRAM = CRATE / "out" / "bt_program"
 RECORD = CRATE / "out" / "proved_at"
@@ -44,25 +44,37 @@ def has_kept_work():
     return any((CRATES / name / "out" / "incremental").is_dir() for name in needed())
 
 
+def left(begun, proved, count):
+    """About how long a proof still takes, by how long the crates took that are proved; nothing of the first minutes, which say little."""
+    took = time.monotonic() - begun
+    return f", about {round(took / proved * (count - proved) / 60) or 1} minutes left" if took > 300 and proved < count else ""
+
+
 def run_proofs(words, folder, is_proved, log, **more):
     """Runs a command of the toolchain in a folder, with more words of the environment, tells at each line that says that a crate is proved how many
     are, and gives its status. What it says goes to the log."""
-    count, proved = len(needed()), 0
+    count, proved, begun = len(needed()), 0, time.monotonic()
     with subprocess.Popen(words, cwd=folder, env={**os.environ, **more}, stdin=subprocess.DEVNULL, stdout=subprocess.PIPE, stderr=subprocess.STDOUT) as proofs:
         try:
             for line in proofs.stdout:
                 log.write(line)
                 if is_proved(line):
                     proved += 1
-                    tell([f"crate {proved} of {count} is proved"])
+                    tell([f"crate {proved} of {count} is proved{left(begun, proved, count)}"])
         except BaseException:
             proofs.terminate()
             raise
     return proofs.returncode
 
 
+def tell_begin():
+    """Tells that a proof begins, and what it takes."""
+    tell([f"proving and building the program, {len(needed())} crates, {jobs()} at a time; this takes a while the first time"])
+
+
 def build_over_kept(log):
     """Proves the crates of the program over what checks by hand kept, and builds it. Says whether it is proved."""
+    tell_begin()
     run_proofs(["rt", "all", "check", "--jobs", str(jobs())], CRATE, lambda line: line.startswith(b"logic=proved"), log)
     # With no words the program only says how it is used, so its own status says nothing here.
     run = subprocess.run(["rt", "run"], cwd=CRATE, stdin=subprocess.DEVNULL, stdout=subprocess.PIPE, stderr=subprocess.STDOUT)
@@ -93,7 +105,7 @@ def room_to_prove():
             yield pathlib.Path(folder)
         return
     with lock:
-        fcntl.flock(lock, fcntl.LOCK_EX)
+        locked(lock, "another proof goes on, of this checkout or another one; this waits for it")
         for path in kept.glob("proving-*"):
             shutil.rmtree(path, ignore_errors=True)
         with tempfile.TemporaryDirectory(prefix="proving-", dir=kept) as folder:
@@ -109,6 +121,7 @@ def build_from_nothing(log):
     with room_to_prove() as folder:
         if is_current():
             return True
+        tell_begin()
         copy_sources(folder)
         status = run_proofs(["rt", "ci"], folder, lambda line: line.startswith(b"rt: ") and line.endswith(b" proved\n") and line.count(b" ") == 2, log,
                             RT_JOBS=str(jobs()))
@@ -123,8 +136,7 @@ def build_from_nothing(log):
 
 
 def build():
-    """Proves and builds the program."""
-    tell([f"proving and building the program, {len(needed())} crates; this takes a while the first time"])
+    """Proves and builds the program. It raises NotBuilt, with what the toolchain said, and OSError."""
     with tempfile.TemporaryFile() as log:
         with contextlib.suppress(FileNotFoundError):
             RECORD.unlink()
@@ -137,13 +149,16 @@ def build():
         RECORD.write_text(f"proved with {asked_of_rt('version')} at {commit()}\n")
 
 
-def program():
-    """The path of the proved program, which is proved and built first where that is wanted."""
-    if not is_checkout():
-        return INSTALLED
-    if not is_current():
-        build()
-    return PROGRAM
+def in_background():
+    """Begins a proof that goes on where the terminal closes, and gives its number and the file that it writes what it tells to."""
+    try:
+        log = cache() / "proving.log"
+    except OSError:
+        log = pathlib.Path(tempfile.mkdtemp(prefix="btreplay-"), "proving.log")
+    with open(log, "wb") as file:
+        words = [sys.executable, "-B", "-S", str(pathlib.Path(__file__).parent), "prove"]
+        proof = subprocess.Popen(words, stdin=subprocess.DEVNULL, stdout=file, stderr=file, start_new_session=True)
+    return proof.pid, log
 
 
 def git(*words):
@@ -171,8 +186,3 @@ def version():
     with contextlib.suppress(OSError):
         return f"btreplay, {RECORD.read_text().strip()}"
     return f"btreplay, proved with {asked_of_rt('version')} at {commit()}"
-
-
-if __name__ == "__main__":
-    print(version())
-    sys.exit(0)

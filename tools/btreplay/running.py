@@ -1,6 +1,7 @@
 """Runs the program, with the caller's streams and the program's own status."""
 import contextlib
 import os
+import resource
 import select
 import signal
 import subprocess
@@ -8,6 +9,8 @@ import sys
 from dataclasses import dataclass
 
 HUGE_PAGES = "glibc.malloc.hugetlb=1"
+# So much stack is enough for a run of every script that could be found.
+STACK = 1_048_576
 PASSED_ON = (signal.SIGINT, signal.SIGTERM, signal.SIGHUP, signal.SIGQUIT)
 
 
@@ -28,10 +31,23 @@ def with_huge_pages(environment):
     return {**environment, "GLIBC_TUNABLES": ":".join([*told, HUGE_PAGES])}
 
 
+def stack_here():
+    """How much stack a program gets that is run from here, in bytes, after more was asked for where it is less than a run wants and may be raised."""
+    soft, hard = resource.getrlimit(resource.RLIMIT_STACK)
+    if soft == resource.RLIM_INFINITY or soft >= STACK:
+        return STACK
+    wanted = STACK if hard == resource.RLIM_INFINITY else min(STACK, hard)
+    with contextlib.suppress(OSError, ValueError):
+        resource.setrlimit(resource.RLIMIT_STACK, (wanted, hard))
+        return wanted
+    return soft
+
+
 def run_program(program, words, output=None, meanwhile=lambda: None):
     """Runs the program with words and the caller's standard input and output, and does `meanwhile` beside it.
 
     It has all files that the caller left open for it, as those of a shell's <(..). Signals that would end this command go to the program, whose end is waited for. What the program tells is handed back."""
+    stack_here()
     child = subprocess.Popen([str(program), *words], close_fds=False, stdout=output, stderr=subprocess.PIPE,
                              env=with_huge_pages(dict(os.environ)))
     before = {}

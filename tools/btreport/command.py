@@ -5,9 +5,8 @@ import shlex
 import signal
 import sys
 
-from btreplay import proved, unproved
+from btreplay.choice import NoProgram, chosen
 from btreplay.compiled import NotBuilt
-from btreplay.places import is_checkout
 from btreplay.recorded import head_of_file
 from btreplay.running import end_in_order
 from btreport import block, calls, processes, threads, time_line
@@ -149,21 +148,6 @@ def report(program, path, scripts, version, is_proved):
     return page(f"Recording {name}", panels)
 
 
-@contextlib.contextmanager
-def program_of(is_unproved):
-    """The path of the program, and in words what it is."""
-    if not is_unproved:
-        yield proved.program(), proved.version()
-        return
-    if not is_checkout():
-        raise Refused(
-            "--unproved is for a checkout of the repository; the program that is installed here is proved", WORDS
-        )
-    tell("this build is not proved")
-    with unproved.build() as path:
-        yield path, f"btreplay at {proved.commit()}, by a build that is not proved"
-
-
 def run(words):
     """Does what the words ask."""
     asked = parsed(words)
@@ -171,8 +155,8 @@ def run(words):
     fault = overwritten(output, [asked.recording] + scripts_of(asked.scripts))
     if fault:
         raise Refused(fault, WORDS)
-    with written(output) as write, program_of(asked.unproved) as (path, version):
-        write(report(Program(path, asked.recording), asked.recording, asked.scripts, version, not asked.unproved))
+    with written(output) as write, chosen(asked.answering, lambda lines: tell("\n".join(lines))) as program:
+        write(report(Program(program.path, asked.recording), asked.recording, asked.scripts, program.version(), program.is_proved))
     if asked.output != "-":
         tell(f"the report of {asked.recording} is in {output}")
     return 0
@@ -189,6 +173,9 @@ def main(words):
     except Refused as fault:
         tell(str(fault))
         return fault.status
+    except NoProgram as fault:
+        tell(str(fault))
+        return WORDS
     except NotBuilt as fault:
         sys.stderr.write(str(fault))
         tell("the program could not be built")

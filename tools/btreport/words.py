@@ -1,6 +1,7 @@
 """The words of the command."""
 import argparse
 
+from btreplay.choice import add_choice
 from btreport.faults import WORDS
 
 DESCRIPTION = """Asks a recording some questions by the program, run --serial --json, and draws what it printed as one
@@ -18,7 +19,7 @@ class Words(argparse.ArgumentParser):
 def parsed(arguments):
     """What words ask for."""
     parser = Words(
-        prog="btreport", description=DESCRIPTION, usage="btreport [--unproved] RECORDING [--scripts FOLDER] [-o FILE]"
+        prog="btreport", description=DESCRIPTION, usage="btreport [--proved | --unproved] RECORDING [--scripts FOLDER] [-o FILE]"
     )
     parser.add_argument("recording", metavar="RECORDING")
     parser.add_argument(
@@ -31,9 +32,5 @@ def parsed(arguments):
         help="the page, which takes the place of a file of this name; - is standard output. Without it "
         "the page is beside the caller, with the recording's name and .html, and no file may have that name",
     )
-    parser.add_argument(
-        "--unproved",
-        action="store_true",
-        help="take the build that is not proved, which is there within some three minutes",
-    )
+    add_choice(parser)
     return parser.parse_args(arguments)

@@ -1,7 +1,9 @@
 """Tests of the command, by a stand-in for the program: what reaches it, what comes from it, and what is told beside it."""
+import fcntl
 import os
 import pty
 import re
+import resource
 import shutil
 import signal
 import subprocess
@@ -13,6 +15,9 @@ from stand_in import TOP, Installed, two_kinds
 
 ORDER = "btreplay: @x is set in one probe and read in another, so the answer depends on the order of CPUs; run --serial takes all events by their times\n"
 PAIR = "t:a:seen { @x[tid] = nsecs; } t:a:seen /@x[tid]/ { @h = hist(nsecs - @x[tid]); }"
+
+
+TOLD = "btreplay: this build is not proved; ./btreplay prove makes the program that is\n"
 
 
 class Command(unittest.TestCase):
@@ -52,15 +57,19 @@ class Command(unittest.TestCase):
                          (2, "", "pair.bt:1:1: K1 frame too large\n"))
 
     def test_words_that_are_no_command(self):
-        """The program says how it is used; the command adds which word is wrong."""
-        self.assertEqual(self.at.run(status=1, err="usage: btreplay run .."), (1, "", "usage: btreplay run ..\n"))
+        """What is wrong stands first and the usage behind it, and the program is not run."""
         files = "takes a script and a recording, and"
-        for words, why in ((["rum", "s.bt", "r.btr"], "there is no command rum; btreplay --help has all of them"),
+        for words, why in (([], "no command is given; btreplay run SCRIPT RECORDING is the first one to try"),
+                           (["rum", "s.bt", "r.btr"], "there is no command rum; run may be meant"),
+                           (["-v"], "there is no option -v; --version may be meant"),
+                           (["run"], f"run {files} 0 words stand there"),
                            (["run", "s.bt"], f"run {files} 1 word stands there"),
+                           (["run", "", "r.btr"], "an empty word is no name of a file"),
                            (["check"], f"check {files} 0 words stand there"),
                            (["gen", "1", "2", "3"], "gen takes two numbers, as in 7 1000, and 3 words stand there"),
                            (["big", "1", "x"], "big takes two numbers, as in 7 1000"),
                            (["run", "--seriall", "s.bt", "r.btr"], "run has no option --seriall; it has --serial, --stats and --json"),
+                           (["run", "--serial", "s.bt", "r.btr", "--serial"], "--serial stands there more than once"),
                            (["check", "--serial", "s.bt", "r.btr"], "check has no option --serial"),
                            (["vet", "s.bt"], f"vet {files} 1 word stands there"),
                            (["account", "--stats", "s.bt", "r.btr"], "account has no option --stats; it has --serial"),
@@ -68,9 +77,14 @@ class Command(unittest.TestCase):
                            (["verify", "--serial", "s.bt", "r.btr", "a.account"], "verify has no option --serial"),
                            (["run", "-e"], "a script stands behind -e, and a recording"),
                            (["run", "-e", "BEGIN { }"], f"run {files} 1 word stands there"),
+                           (["explain", "s.bt"], f"explain {files} 1 word stands there"),
                            (["run", "-"], f"run {files} 1 word stands there")):
             with self.subTest(words):
-                self.assertEqual(self.at.run(*words, status=1, err="usage: btreplay run .."), (1, "", f"usage: btreplay run ..\nbtreplay: {why}\n"))
+                status, out, err = self.at.run(*words, status=9)
+                self.assertEqual((status, out, err.splitlines()[0]), (1, "", f"btreplay: {why}"))
+                known = words and words[0] in ("run", "check", "gen", "big", "vet", "account", "verify", "explain")
+                self.assertIn(f"\nusage: btreplay {words[0]} " if known else "\nusage: btreplay COMMAND ", err)
+                self.assertFalse((self.at.folder / "words").exists())
 
     def test_a_script_in_the_words(self):
         self.assertEqual(self.at.run("run", "-e", PAIR, "r.btr", out="text"), (0, "text", ORDER))
@@ -183,7 +197,10 @@ class Command(unittest.TestCase):
         for command in ("run", "explain"):
             done = subprocess.run([os.fsencode(str(self.at.top / "btreplay")), command.encode(), name, b"r.btr"], stdin=subprocess.DEVNULL,
                                   stdout=subprocess.PIPE, stderr=subprocess.STDOUT, cwd=self.at.folder, env=self.at.environment())
-            self.assertEqual((done.returncode, done.stdout.decode().replace("btreplay: ", "")), (0, ORDER.replace("btreplay: ", "")))
+            self.assertEqual((done.returncode, done.stdout.decode().splitlines()[0]), (1, "btreplay: a word that is no UTF-8 text is no name of a file"))
+        done = subprocess.run([os.fsencode(str(self.at.top / "btreplay")), b"run", b"-e", b"// \xff", b"r.btr"], stdin=subprocess.DEVNULL,
+                              stdout=subprocess.PIPE, stderr=subprocess.STDOUT, cwd=self.at.folder, env=self.at.environment())
+        self.assertEqual((done.returncode, (self.at.folder / "script").read_bytes()), (0, b"// \xff"))
 
     def test_signals_reach_the_program(self):
         for number in (signal.SIGTERM, signal.SIGINT):
@@ -226,13 +243,33 @@ class Command(unittest.TestCase):
     def test_help_and_version(self):
         status, out, err = self.at.run("--help")
         self.assertEqual((status, err), (0, ""))
-        self.assertEqual(self.at.run("run", "--help"), (0, out, ""))
-        for word in ("run [--serial] [--stats] [--json] SCRIPT RECORDING", "explain", "-e 'PROGRAM'", "--version"):
+        for word in ("runs scripts of the bpftrace language", "usage: ", "    explain  SCRIPT RECORDING", "-e 'PROGRAM'", "--version", "examples:"):
             self.assertIn(word, out)
+        self.assertEqual([self.at.run(word) for word in ("-h", "help")], [(0, out, "")] * 2)
+        of_run = self.at.run("help", "run")
+        self.assertTrue(of_run[1].startswith("usage: btreplay run [--serial] [--stats] [--json] SCRIPT RECORDING\n"), of_run)
+        for words in (["run", "-h"], ["run", "--help"], ["--help", "run"], ["run", "s.bt", "r.btr", "-h"]):
+            self.assertEqual(self.at.run(*words), of_run)
+        self.assertEqual(self.at.run("help", "rum")[2].splitlines()[0], "btreplay: there is no command rum; run may be meant")
+        self.assertEqual(self.at.run("run", "-e", "--help", "r.btr")[0], 0)
+        self.assertEqual(self.at.words()[-1], "r.btr")
         self.assertNotIn("--unproved", out)
         (self.at.top / "version").write_text("btreplay, proved with a kit at a commit\n")
         self.assertEqual(self.at.run("--version"), (0, "btreplay, proved with a kit at a commit\n", ""))
         self.assertEqual(self.at.run("--unproved", "check", "s.bt", "r.btr")[0], 1)
+        self.assertEqual(self.at.run("check", "s.bt", "r.btr", "--proved")[0], 0)
+        self.assertEqual(self.at.run("prove"), (1, "", "btreplay: prove is for a checkout of the repository; the program that is installed here is proved\n"))
+
+    def test_the_stack_that_a_run_wants(self):
+        """It is raised where it may be; where it may not and the run ends for it, that is told."""
+        def limits(soft, hard):
+            return lambda: resource.setrlimit(resource.RLIMIT_STACK, (soft * 1024, hard * 1024))
+        for soft, hard, does, status, out, err in ((512, 4096, "ulimit -s", 0, "1024\n", ""), (2048, 4096, "ulimit -s", 0, "2048\n", ""),
+                                                   (512, 700, "ulimit -s; kill -SEGV $$", -signal.SIGSEGV, "700\n",
+                                                    "btreplay: a run wants a stack of 1024 KB, and may have 700; ulimit -s 1024 gives it\n")):
+            done = subprocess.run([str(self.at.top / "btreplay"), "gen", "1", "2"], stdin=subprocess.DEVNULL, stdout=subprocess.PIPE, stderr=subprocess.PIPE,
+                                  cwd=self.at.folder, env=self.at.environment(does=does), preexec_fn=limits(soft, hard), timeout=120)
+            self.assertEqual((done.returncode, done.stdout.decode(), done.stderr.decode()), (status, out, err))
 
     def test_without_python(self):
         os.mkdir(self.at.folder / "empty")
@@ -263,9 +300,13 @@ class Builds(unittest.TestCase):
         return self.at.run("--unproved", *words, **how)
 
     def test_one_build_for_the_same_sources(self):
-        told = "btreplay: this build is not proved\n"
-        for _ in range(3):
-            self.assertEqual(self.unproved("run", "s.bt", "r.btr", out="text", status=3), (3, "text", told))
+        status, out, err = self.unproved("run", "s.bt", "r.btr", out="text", status=3)
+        self.assertEqual((status, out, err.splitlines(True)[0]), (3, "text", TOLD))
+        self.assertEqual([line.partition(" (")[2].partition(")")[0] for line in err.splitlines()[1:]], ["1 of 3", "2 of 3", "3 of 3"])
+        self.assertRegex(err, r"btreplay: [^\n]*, about \d+ seconds left\n")
+        for words in (["--unproved", "run", "s.bt", "r.btr"], ["run", "--unproved", "s.bt", "r.btr"], ["run", "s.bt", "r.btr", "--unproved"],
+                      ["run", "s.bt", "r.btr"]):
+            self.assertEqual(self.at.run(*words, out="text", status=3), (3, "text", TOLD))
             self.assertEqual(self.at.words(), ["run", "s.bt", "r.btr"])
         self.assertEqual(self.builds(), 1)
         (self.at.top / "crates" / "other" / "src" / "main.rt").write_text("// not below the program\n")
@@ -284,17 +325,19 @@ class Builds(unittest.TestCase):
         kit, links = self.at.folder / "a kit", (self.at.folder / "builds").read_text().strip()
         self.assertNotEqual(links, str(kit))
         work = os.path.dirname(links)
-        self.assertEqual((self.at.folder / "tools").read_text().splitlines(), [
+        tools = [line for line in (self.at.folder / "tools").read_text().splitlines() if " -emit-llvm " not in line]
+        self.assertEqual(tools, [
             f"clang --sysroot={links}/toolchain -c -x ir /dev/null -o probe.o -O0",
-            f"clang --sysroot={links}/toolchain -c -x ir {work}/code.bc -o {work}/program.o -O1",
-            f"rattle-link --target x86_64-unknown-linux-gnu --toolchain {kit}/toolchain -o {work}/program {work}/program.o {kit}/c/libos_c.a {kit}/c/liblibc_c.a"])
+            f"clang --sysroot={links}/toolchain -c -x ir {work}/code.bc -o {work}/code.o -O1",
+            f"rattle-link --target x86_64-unknown-linux-gnu --toolchain {kit}/toolchain -o {work}/program {work}/code.o {kit}/c/libos_c.a {kit}/c/liblibc_c.a"])
         self.assertFalse(os.path.exists(work))
         self.assertEqual(sorted(str(path.relative_to(kit)) for path in kit.rglob("*") if path.is_file()),
                          ["START-HERE.md", "bin/rattle-link", "bin/rt", "c/asan.a", "c/liblibc_c.a", "c/libos_c.a", "toolchain/bin/clang"])
         self.assertEqual((kit / "c" / "asan.a").read_text(), "asan")
 
     def test_a_check_that_fails_as_it_runs_is_told(self):
-        told = "btreplay: this build is not proved\nbtreplay: a check of this build failed as it ran\n"
+        self.unproved("gen", "1", "2")
+        told = TOLD + "btreplay: a check of this build failed as it ran\n"
         self.assertEqual(self.unproved("gen", "1", "2", does="kill -ILL $$"), (-signal.SIGILL, "", told))
         self.assertEqual(self.unproved("gen", "1", "2", does="kill -TERM $$"), (-signal.SIGTERM, "", told.splitlines(True)[0]))
 
@@ -311,7 +354,7 @@ class Builds(unittest.TestCase):
     def test_a_build_that_fails_is_told_and_not_kept(self):
         status, out, err = self.unproved("gen", "1", "2", more={"STAND_IN_FAILS": "no such type"})
         self.assertEqual((status, out), (1, ""))
-        self.assertEqual(err, "btreplay: this build is not proved\nerror: no such type\nbtreplay: the program could not be built\n")
+        self.assertTrue(err.startswith(TOLD) and err.endswith("error: no such type\nbtreplay: the program could not be built\n"), err)
         self.assertEqual([path.name for path in (self.at.folder / "cache" / "btreplay").iterdir()], ["lock"])
         for tool in ("clang", "rattle-link"):
             err = self.unproved("gen", "1", "2", more={"STAND_IN_BROKEN": tool})[2]
@@ -325,8 +368,8 @@ class Builds(unittest.TestCase):
         self.assertEqual(self.builds(), 1)
 
     def test_a_build_that_is_stopped_leaves_nothing(self):
-        for words in (["--unproved"], []):
-            child = subprocess.Popen([str(self.at.top / "btreplay"), *words, "gen", "1", "2"], stdout=subprocess.PIPE, stderr=subprocess.PIPE, cwd=self.at.folder,
+        for words in (["gen", "1", "2"], ["prove"]):
+            child = subprocess.Popen([str(self.at.top / "btreplay"), *words], stdout=subprocess.PIPE, stderr=subprocess.PIPE, cwd=self.at.folder,
                                      env=self.at.environment(more={"STAND_IN_SLOW": "yes", "TMPDIR": str(self.at.folder)}))
             until, before = time.monotonic() + 60, self.builds()
             while self.builds() == before and time.monotonic() < until:
@@ -340,23 +383,67 @@ class Builds(unittest.TestCase):
     def test_where_nothing_can_be_kept(self):
         self.at.write("file", "")
         self.assertEqual(self.unproved("gen", "1", "2", out="x", more={"XDG_CACHE_HOME": f"{self.at.folder}/file", "TMPDIR": str(self.at.folder)})[:2], (0, "x"))
+        err = self.unproved("gen", "1", "2", more={"XDG_CACHE_HOME": f"{self.at.folder}/file", "TMPDIR": str(self.at.folder)})[2]
+        self.assertIn("/file/btreplay: Not a directory, so the build is made for this use alone; XDG_CACHE_HOME names another folder", err)
         self.assertEqual([path.name for path in self.at.folder.glob("btreplay-*")], [])
 
     def test_the_proved_program_is_built_once_and_again_for_newer_sources(self):
-        told = ("btreplay: proving and building the program, 2 crates; this takes a while the first time\n"
-                "btreplay: crate 1 of 2 is proved\nbtreplay: crate 2 of 2 is proved\n")
         self.assertRegex(self.at.run("--version")[1], r"^btreplay at .*, not proved and built here\n$")
-        self.assertEqual(self.at.run("gen", "1", "2", out="x"), (0, "x", told))
+        refused = (1, "", "btreplay: the program is not proved and built here, or its sources are newer; ./btreplay prove does that\n")
+        self.assertEqual(self.at.run("gen", "1", "2", "--proved", out="x"), refused)
+        is_proved = f"the program is proved: {self.at.top}/crates/bt_program/out/bt_program\n"
+        status, out, err = self.at.run("prove")
+        self.assertEqual((status, out), (0, is_proved))
+        self.assertRegex(err, r"^btreplay: proving and building the program, 2 crates, \d+ at a time; this takes a while the first time\n"
+                              "btreplay: crate 1 of 2 is proved\nbtreplay: crate 2 of 2 is proved\n$")
+        self.assertEqual(self.at.run("prove"), (0, is_proved, ""))
         self.assertEqual(self.at.run("gen", "1", "2", out="x"), (0, "x", ""))
+        self.assertEqual(self.at.run("gen", "--proved", "1", "2", out="x"), (0, "x", ""))
         self.assertEqual(self.builds(), 1)
         self.assertRegex(self.at.run("--version")[1], r"^btreplay, proved with kit of the test at ")
         later = time.time() + 10
         os.utime(self.source, (later, later))
-        status, out, err = self.at.run("gen", "1", "2", out="x", more={"STAND_IN_FAILS": "not proved"})
+        self.assertEqual(self.at.run("gen", "1", "2", "--proved", out="x"), refused)
+        self.assertEqual(self.at.run("gen", "1", "2", out="x")[2].splitlines(True)[0], TOLD)
+        status, out, err = self.at.run("prove", more={"STAND_IN_FAILS": "not proved"})
         self.assertEqual((status, out), (1, ""))
         self.assertTrue(err.endswith("rt: bt_core proved\nerror: not proved\nrt: bt_program NOT PROVED\n1 passed, 1 failed\n"
                                      "btreplay: the program could not be built\n"), err)
-        self.assertEqual(self.at.run("gen", "1", "2", out="x"), (0, "x", told))
+        self.assertEqual(self.at.run("prove")[:2], (0, is_proved))
+
+    def test_a_proof_in_the_background(self):
+        status, out, err = self.at.run("prove", "--background")
+        self.assertEqual((status, err), (0, ""))
+        self.assertRegex(out, r"by process \d+, also where this terminal closes; kill \d+ ends it\nwhat it tells goes to .*/proving\.log\n$")
+        log = self.at.folder / "cache" / "btreplay" / "proving.log"
+        until = time.monotonic() + 60
+        while "the program is proved: " not in log.read_text() and time.monotonic() < until:
+            time.sleep(0.05)
+        self.assertIn("btreplay: crate 2 of 2 is proved\nthe program is proved: ", log.read_text())
+
+    def test_words_are_read_in_every_state(self):
+        """Without a toolchain, and before anything is built or kept."""
+        os.unlink(self.at.folder / "bin" / "rt")
+        for words, status in (([], 1), (["runn", "x", "y"], 1), (["run"], 1), (["-v"], 1), (["run", "--unproved", "x"], 1), (["help"], 0),
+                              (["-h"], 0), (["--help"], 0), (["--version"], 0), (["run", "-h"], 0), (["help", "prove"], 0), (["prove", "x"], 1),
+                              (["run", "--proved", "--unproved", "s.bt", "r.btr"], 1)):
+            with self.subTest(words):
+                self.assertEqual(self.at.run(*words)[0], status)
+        self.assertFalse((self.at.folder / "cache").exists())
+
+    def test_who_waits_says_so(self):
+        for words, name, told in ((["gen", "1", "2"], "lock", "another build that is not proved is being made; this waits for it"),
+                                  (["prove"], "proving", "another proof goes on, of this checkout or another one; this waits for it")):
+            path = self.at.folder / "cache" / "btreplay" / name
+            path.parent.mkdir(parents=True, exist_ok=True)
+            with open(path, "w") as lock:
+                fcntl.flock(lock, fcntl.LOCK_EX)
+                child = subprocess.Popen([str(self.at.top / "btreplay"), *words], stdout=subprocess.PIPE, stderr=subprocess.PIPE, cwd=self.at.folder,
+                                         env=self.at.environment())
+                lines = [child.stderr.readline().decode() for _ in range(2 if words[0] == "gen" else 1)]
+                self.assertEqual(lines[-1], f"btreplay: {told}\n")
+            self.assertNotIn(b"waits", child.communicate(timeout=120)[1])
+            self.assertEqual(child.returncode, 0)
 
     def test_it_is_proved_from_nothing_of_its_own_crates_alone(self):
         """In a folder that is removed, without the wrong bodies that the gate tries; and where it is not proved, nothing is put in the program's place."""
@@ -364,9 +451,9 @@ class Builds(unittest.TestCase):
         for name in ("must-fail/wrong.edit", "specs/out/Word.antt", "out/rlib/stamp"):
             (crate / name).parent.mkdir(parents=True)
             (crate / name).write_text("-- any\n")
-        self.assertEqual(self.at.run("gen", "1", "2", more={"STAND_IN_FAILS": "not proved"})[0], 1)
+        self.assertEqual(self.at.run("prove", more={"STAND_IN_FAILS": "not proved"})[0], 1)
         self.assertFalse((self.at.top / "crates" / "bt_program" / "out").exists())
-        self.assertEqual(self.at.run("gen", "1", "2", out="x")[:2], (0, "x"))
+        self.assertEqual(self.at.run("prove")[0], 0)
         self.assertEqual((self.at.folder / "given").read_text().splitlines(), [
             "./HANDLES", "./crates.txt", "./crates/bt_core/specs/out/Word.antt", "./crates/bt_core/src/main.rt", "./crates/bt_program/src/main.rt",
             "bt_core: thiserror", "bt_program: bt_core", "Handles allowed: none."])
@@ -377,18 +464,18 @@ class Builds(unittest.TestCase):
 
     def test_it_is_proved_over_what_checks_by_hand_kept(self):
         (self.at.top / "crates" / "bt_core" / "out" / "incremental").mkdir(parents=True)
-        status, out, err = self.at.run("gen", "1", "2", out="x")
-        self.assertEqual((status, out, err.splitlines()[1:]), (0, "x", ["btreplay: crate 1 of 2 is proved", "btreplay: crate 2 of 2 is proved"]))
+        status, _, err = self.at.run("prove")
+        self.assertEqual((status, err.splitlines()[1:]), (0, ["btreplay: crate 1 of 2 is proved", "btreplay: crate 2 of 2 is proved"]))
         self.assertEqual(self.builds(), 0)
         later = time.time() + 10
         os.utime(self.source, (later, later))
-        err = self.at.run("gen", "1", "2", out="x", more={"STAND_IN_FAILS": "not proved"})[2]
+        err = self.at.run("prove", more={"STAND_IN_FAILS": "not proved"})[2]
         self.assertTrue(err.endswith("== bt_program\nlogic=proved functions=2\nerror: not proved\nbtreplay: the program could not be built\n"), err)
 
     def test_two_that_prove_at_once_build_once(self):
-        children = [subprocess.Popen([str(self.at.top / "btreplay"), "gen", "1", "2"], stdout=subprocess.PIPE, stderr=subprocess.PIPE,
+        children = [subprocess.Popen([str(self.at.top / "btreplay"), "prove"], stdout=subprocess.PIPE, stderr=subprocess.PIPE,
                                      cwd=self.at.folder, env=self.at.environment(out="x")) for _ in range(3)]
-        self.assertEqual([(child.communicate(timeout=120)[0], child.returncode) for child in children], [(b"x", 0)] * 3)
+        self.assertEqual([child.communicate(timeout=120) and child.returncode for child in children], [0] * 3)
         self.assertEqual(self.builds(), 1)
 
     def test_no_toolchain(self):
@@ -401,7 +488,7 @@ class Builds(unittest.TestCase):
 class Pages(unittest.TestCase):
     def test_the_man_page_has_all_words(self):
         page = (TOP / "docs" / "btreplay.1").read_text().replace("\\-", "-")
-        for word in ("explain", "--unproved", "--help", "--version", "-e", "XDG_CACHE_HOME"):
+        for word in ("explain", "prove", "--proved", "--unproved", "--background", "--help", "--version", "-e", "XDG_CACHE_HOME"):
             self.assertIn(word, page)
 
 

@@ -108,16 +108,20 @@ class Completion(unittest.TestCase):
         return sorted(done.stdout.decode().split())
 
     def test_words(self):
-        self.assertEqual(self.completed(""), sorted("run check explain code gen big account verify vet --help --version --unproved".split()))
+        choice = ["--help", "--proved", "--unproved"]
+        commands = "run check explain code gen big account verify vet prove help".split()
+        self.assertEqual(self.completed(""), sorted([*commands, "--version", *choice]))
         self.assertEqual(self.completed("ru"), ["run"])
+        self.assertEqual(self.completed("help", ""), sorted(commands))
         self.assertEqual(self.completed("--unproved", "c"), ["check", "code"])
-        self.assertEqual(self.completed("--unproved", "-"), ["--help", "--version"])
-        self.assertEqual(self.completed("run", "-"), ["--json", "--serial", "--stats", "-e"])
-        self.assertEqual(self.completed("check", "-"), ["-e"])
+        self.assertEqual(self.completed("--unproved", "-"), sorted(["--version", *choice]))
+        self.assertEqual(self.completed("run", "-"), sorted(["--json", "--serial", "--stats", "-e", *choice]))
+        self.assertEqual(self.completed("run", "--unproved", "--se"), ["--serial"])
+        self.assertEqual(self.completed("prove", "-"), ["--background", "--help"])
         self.assertEqual(self.completed("gen", ""), [])
-        self.assertEqual(self.completed("vet", "-"), ["-e"])
-        self.assertEqual(self.completed("account", "-"), ["--serial", "-e"])
-        self.assertEqual(self.completed("verify", "-"), ["-e"])
+        self.assertEqual(self.completed("account", "-"), sorted(["--serial", "-e", *choice]))
+        for command in ("check", "vet", "verify"):
+            self.assertEqual(self.completed(command, "-"), sorted(["-e", *choice]))
 
     def test_files(self):
         self.assertEqual(self.completed("run", ""), ["s.bt", "sub"])
