@@ -7,8 +7,9 @@ from btfleet.child import Limits
 from btfleet.fleet import Unasked
 from btfleet.machine import this_machine
 from btfleet.placing import Asked, one_file
-from btfleet.recording import NoRecording, look
+from btfleet.recording import NOT_THERE, NoRecording, look
 from btreplay.proved import jobs
+from btreplay.refusal import why_unread
 
 SECONDS = 30 * 24 * 3600
 
@@ -21,7 +22,7 @@ def placed_here(operands):
         try:
             recording = look(operand.path)
         except NoRecording as fault:
-            cause = str(fault)
+            cause = why_unread(operand.path) if str(fault) == NOT_THERE else str(fault)
         if recording in known:
             raise one_file(known[recording], operand.word)
         known.update({recording: operand.word} if recording else {})

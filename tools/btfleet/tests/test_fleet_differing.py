@@ -142,6 +142,9 @@ class Labels(unittest.TestCase):
         self.assertEqual((str(refused.exception), refused.exception.status), ("/no/labels: there is no folder /no", 4))
 
 
+ALIKE = "btfleet: web1:plain0.btr, web2:plain1.btr are alike in size, head and end: a copy is counted as often as it is named\n"
+
+
 class Command(WithFolder):
     """The command over files here, with the stand-in for the program."""
 
@@ -163,7 +166,7 @@ class Command(WithFolder):
         told = "btfleet: the result has 3 of 3 recordings\n"
         by = ["--by", "role", "--labels", "hosts"]
         self.assertEqual(self.installed.run("run", "s.bt", *self.words("plain"), *by),
-                         (0, b"web: hi\nweb: hi\ndb: hi\n@calls[web, x]: 200\n@calls[db, x]: 400\n\n", told))
+                         (0, b"web: hi\nweb: hi\ndb: hi\n@calls[web, x]: 200\n@calls[db, x]: 400\n\n", ALIKE + told))
         lines = self.installed.run("run", "s.bt", *self.words("plain"), *by, "--json")[1].splitlines()
         self.assertEqual(json.loads(lines[2]), {"data": "hi\n", "group": "db", "type": "printf"})
         left = "btfleet: what recordings print by themselves is not compared, and left out: 3 pieces\n"

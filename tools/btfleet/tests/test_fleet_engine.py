@@ -121,7 +121,7 @@ class OnThisMachine(WithFolder):
         one = self.installed.recording("1.btr", [calls(3)], 'cat "$script" >"$recording.script"')
         self.assertEqual(self.installed.run("run", script, one)[1], b"@calls[a]: 3\n\n")
         self.assertEqual(pathlib.Path(f"{one}.script").read_text(), "t:a:b { @calls[comm] = count(); } END { print(@calls   ); clear(@calls); }")
-        self.installed.write("avg.bt", "t:a:b { @calls = avg(1); }")
+        self.installed.write("avg.bt", "t:a:b { @calls[@next++] = avg(1); }")
         self.assertEqual(self.installed.run("run", "avg.bt", one)[:2], (2, b""))
         self.assertEqual(self.installed.runs(), [one])
 
