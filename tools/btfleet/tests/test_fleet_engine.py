@@ -90,7 +90,7 @@ class OnThisMachine(WithFolder):
         lines = told.splitlines()
         self.assertEqual(lines[:2], [f"btfleet: {bad[0]}: C1 truncated at byte 9", f"btfleet: {bad[1]}: its run was ended by SIGKILL"])
         self.assertRegex(lines[2], f"^btfleet: {bad[2]}: a line of its answer is no JSON")
-        self.assertEqual(lines[3:], ["btfleet: nothere.btr: there is no such file there that can be read",
+        self.assertEqual(lines[3:], ["btfleet: nothere.btr: there is no such file",
                                      "btfleet: the result has 1 of 5 recordings"])
         self.assertEqual(self.installed.run("run", self.script, "nothere.btr")[:2], (3, b""))
 
