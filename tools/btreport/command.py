@@ -7,6 +7,7 @@ import sys
 
 from btreplay.choice import NoProgram, chosen
 from btreplay.compiled import NotBuilt
+from btreplay.places import is_checkout
 from btreplay.recorded import head_of_file
 from btreplay.running import end_in_order
 from btreport import block, calls, processes, threads, time_line
