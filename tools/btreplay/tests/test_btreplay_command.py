@@ -35,6 +35,8 @@ class Command(unittest.TestCase):
         self.assertEqual(self.at.words(), ["run", "--json", "s.bt", "r.btr"])
         for status in (1, 2, 3, 5, 6, 7, 8, 77):
             self.assertEqual(self.at.run("gen", "1", "2", status=status, err="some fault"), (status, "", "some fault\n"))
+        self.at.run("check", "a script -e", "r.btr --serial", status=4)
+        self.assertEqual(self.at.words(), ["check", "a script -e", "r.btr --serial"])
 
     def test_huge_pages_are_asked_for(self):
         """Unless the caller says otherwise; what else the caller tells the C library stands."""
@@ -98,6 +100,8 @@ class Command(unittest.TestCase):
                          (2, "", "-e:1:7: X1 bad character\n"))
         self.assertEqual(self.at.run("verify", "-e", "BEGIN { }", "r.btr", "a.account", status=7, err="a.account: N2 wrong step 0"),
                          (7, "", "a.account: N2 wrong step 0\n"))
+        self.assertEqual([word for word in self.at.words() if not word.startswith("/dev/fd/")], ["verify", "r.btr", "a.account"])
+        self.assertEqual(self.at.run("run", "-e", status=9)[0], 1)
         self.assertEqual([word for word in self.at.words() if not word.startswith("/dev/fd/")], ["verify", "r.btr", "a.account"])
 
     def test_a_script_on_standard_input(self):
