@@ -136,7 +136,7 @@ class OnThisMachine(unittest.TestCase):
             self.assertEqual(str(refused.exception), f"web1:{self.one} and {other} are one file, which would be counted twice")
         found = placed_here(operands([f"web1:{self.one}", "nothere.btr"], False))
         self.assertEqual([(asked.host, asked.path, bool(asked.seen), asked.cause) for asked in found][0], ("web1", str(self.one), True, ""))
-        self.assertEqual(found[1].cause, "there is no such file there that can be read")
+        self.assertEqual(found[1].cause, "there is no such file")
 
     def test_what_is_no_recording(self):
         """Nothing is opened that may wait, and nothing outside of the folders that are let, links followed."""
