@@ -1,4 +1,6 @@
 """Tests of examples/wide.btr, a recording of a machine with 16 CPUs: it has what tools/beside/wide.c does on each of them, and nothing else by its names."""
+import contextlib
+import io
 import os
 import pathlib
 import tempfile
@@ -120,7 +122,7 @@ class Wide(unittest.TestCase):
     def test_a_part_of_each_cpu(self):
         """The parts of all CPUs together have each event once."""
         counts = []
-        with tempfile.TemporaryDirectory() as folder:
+        with tempfile.TemporaryDirectory() as folder, contextlib.redirect_stderr(io.StringIO()):
             for cpu in range(CPUS):
                 part = os.path.join(folder, "part.btr")
                 self.assertEqual(program.main(["cut", str(WIDE), "--cpu", str(cpu), "-o", part]), 0)
